@@ -1,0 +1,2 @@
+-- The meaning of records.
+pub mod Records

@@ -1,0 +1,3 @@
+-- The meanings of bits and masks.
+pub mod Bits
+pub mod Masks

@@ -1,0 +1,2 @@
+-- The meaning of a refusal.
+pub mod Refusals

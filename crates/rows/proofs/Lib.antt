@@ -1,0 +1,2 @@
+-- Lemmas on the rows of sources.
+pub mod Places

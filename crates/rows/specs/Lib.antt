@@ -1,0 +1,2 @@
+-- The meanings of row sources.
+pub mod Sources

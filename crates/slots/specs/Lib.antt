@@ -1,0 +1,3 @@
+-- The meanings of rows and slots.
+pub mod Rows
+pub mod Slots
