@@ -12,16 +12,16 @@ pub enum Mask<'a> {
     Values { len: u64, bytes: &'a [u8] },
 }
 
-impl Mask<'static> {
+impl<'a> Mask<'a> {
     // len flags, all set.
-    pub fn new_true(len: u64) -> Mask<'static>
+    pub fn new_true(len: u64) -> Mask<'a>
         ensures { λ r. ⌜ flags r ≡ replicate len true ⌝ }
     {
         Mask::AllTrue(len)
     }
 
     // len flags, all unset.
-    pub fn new_false(len: u64) -> Mask<'static>
+    pub fn new_false(len: u64) -> Mask<'a>
         ensures { λ r. ⌜ flags r ≡ replicate len false ⌝ }
     {
         Mask::AllFalse(len)

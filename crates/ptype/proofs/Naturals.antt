@@ -11,7 +11,7 @@ use Rattle.std.specs.declared.option.Option.{Option}
 use Rattle.std.specs.declared.option.Option.the-variants.{Some, None}
 use Rattle.std.proofs.shelf.Lists.{getD-map, drop-more, length-map}
 use Rattle.std.proofs.shelf.Ways.{tells}
-use Rattle.ptype.specs.Integers.{natural, amount, naturalAt}
+use Rattle.ptype.specs.Integers.{natural, amount, naturalAt, amountAt}
 use Rattle.ptype.specs.Searches.{isBelow, isWithin}
 
 -- what is left of the integers of xs begins with the one of the element at i
@@ -40,6 +40,18 @@ amount-or (negsuc n) = refl
 -- an entry that is read as 0 where it is negative
 pub amount-read : (n : ℕ) (o : Option ℕ) (z : ℤ) → n ≡ valueOr o 0 → o ≡ natural z → n ≡ amount z
 amount-read n o z e is = e ∙ ap (λ p. valueOr p 0) is ∙ amount-or z
+
+-- the entry at a place, read as 0 where it is negative or not there
+entry-or : (zs : List ℤ) (i : ℕ) → valueOr (naturalAt zs i) 0 ≡ amountAt zs i
+entry-or [] i = refl
+entry-or (z ∷ zs) zero = amount-or z
+entry-or (z ∷ zs) (suc i) = entry-or zs i
+
+pub entry-read : (zs : List ℤ) (i n : ℕ) (o : Option ℕ) → n ≡ valueOr o 0 → o ≡ naturalAt zs i → n ≡ amountAt zs i
+entry-read zs i n o e is = e ∙ ap (λ p. valueOr p 0) is ∙ entry-or zs i
+
+pub entry-at : (zs : List ℤ) (i n : ℕ) → Some n ≡ naturalAt zs i → n ≡ amountAt zs i
+entry-at zs i n e = ap (λ p. valueOr p 0) e ∙ entry-or zs i
 
 pub within : (low high n : ℕ) (z : ℤ) → Some n ≡ natural z → low ≤ n → n ≤ high → isWithin low high z ≡ true
 within low high n (pos m) e a b = let s : n ≡ m = cc in grind (arith, tells)

@@ -1,5 +1,6 @@
 -- A refusal as three numbers: which rule turned a call down, at which entry, and at which byte. A place that is not named is 0.
-use mathlib.Core.Path.{_≡_}
+use mathlib.Core.Bool.{Bool, true, false}
+use mathlib.Core.List.{List, [], _∷_}
 use Prim.Native.Nat.{ℕ}
 use Rattle.std.specs.declared.option.Option.{Option}
 use Rattle.std.specs.declared.option.Option.the-variants.{Some, None}
@@ -46,3 +47,14 @@ codeOf (MalformedRecord entry) = code 19 entry 0
 abbrev pub answer : {X : Type 0} → Result X Refusal → Option Code
 answer (Ok x) = None
 answer (Err e) = Some (codeOf e)
+
+-- a check that turns a call down where a test holds
+abbrev pub refuseIf : Bool → Code → Option Code
+refuseIf true c = Some c
+refuseIf false c = None
+
+-- the answer of checks in their order: the first refusal
+abbrev pub firstRefusal : List (Option Code) → Option Code
+firstRefusal [] = None
+firstRefusal (None ∷ cs) = firstRefusal cs
+firstRefusal (Some c ∷ cs) = Some c

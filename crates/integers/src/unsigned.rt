@@ -1,6 +1,6 @@
 // A lent slice of one of the four unsigned kinds, for the starts and lengths of runs.
 ghost use mathlib.Core.Path.{_≡_};
-ghost use Rattle.ptype.specs.Slices.{widened};
+ghost use Rattle.integers.specs.Slices.{widened};
 use crate::slices::IntegerSlice;
 
 #[derive(Clone, Copy)]

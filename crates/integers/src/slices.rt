@@ -2,18 +2,18 @@
 ghost use mathlib.Core.Path.{_≡_};
 ghost use lib.ListN.{length};
 ghost use Rattle.mask.specs.Masks.{flags};
 ghost use Rattle.ptype.specs.Integers.{naturalAt};
 ghost use Rattle.ptype.specs.Searches.{firstNotBelow, firstFall, firstOverrun, total, inU64};
-ghost use Rattle.ptype.specs.Slices.{integers};
-use crate::entries::Entries;
-use crate::native::U8PType;
-use crate::native::U16PType;
-use crate::native::U32PType;
-use crate::native::U64PType;
-use crate::native::I8PType;
-use crate::native::I16PType;
-use crate::native::I32PType;
-use crate::native::I64PType;
+ghost use Rattle.integers.specs.Slices.{integers};
+use ptype::entries::Entries;
+use ptype::native::U8PType;
+use ptype::native::U16PType;
+use ptype::native::U32PType;
+use ptype::native::U64PType;
+use ptype::native::I8PType;
+use ptype::native::I16PType;
+use ptype::native::I32PType;
+use ptype::native::I64PType;
 use mask::mask::Mask;
 
 #[derive(Clone, Copy)]

@@ -1,7 +1,7 @@
 -- The list of integers is as long as the slice.
 use borrow.Author.Needs.{needs}
 use Rattle.std.proofs.shelf.Lists.{length-map}
-use Rattle.ptype.proofs.slices.IntegerSlice.len.Needs as need
+use Rattle.integers.proofs.slices.IntegerSlice.len.Needs as need
 
 pub returns-in-U8 : need.returns-in-U8
 returns-in-U8 c = search (needs, length-map)

@@ -1,10 +1,10 @@
 -- What a slice of any kind means: a list of integers.
 use mathlib.Core.List.{List, map}
 use lib.IntN.{ℤ, pos}
-use Rattle.ptype.specs.declared.slices.IntegerSlice.{IntegerSlice}
-use Rattle.ptype.specs.declared.slices.IntegerSlice.the-variants.{U8, U16, U32, U64, I8, I16, I32, I64}
-use Rattle.ptype.specs.declared.unsigned.UnsignedSlice.{UnsignedSlice}
-use Rattle.ptype.specs.declared.unsigned.UnsignedSlice.the-variants.{U8 as Unsigned8, U16 as Unsigned16, U32 as Unsigned32, U64 as Unsigned64}
+use Rattle.integers.specs.declared.slices.IntegerSlice.{IntegerSlice}
+use Rattle.integers.specs.declared.slices.IntegerSlice.the-variants.{U8, U16, U32, U64, I8, I16, I32, I64}
+use Rattle.integers.specs.declared.unsigned.UnsignedSlice.{UnsignedSlice}
+use Rattle.integers.specs.declared.unsigned.UnsignedSlice.the-variants.{U8 as Unsigned8, U16 as Unsigned16, U32 as Unsigned32, U64 as Unsigned64}
 
 abbrev pub integers : IntegerSlice → List ℤ
 integers (U8 s) = map pos (s .now)

@@ -1,0 +1,6 @@
+-- Lemmas on opened columns.
+pub mod Opens
+pub mod Samples
+pub mod Slots
+pub mod Tallying
+pub mod Texts

@@ -1,0 +1,113 @@
+// SPDX-License-Identifier: Apache-2.0
+// SPDX-FileCopyrightText: Copyright the Vortex contributors
+// Changed: `VarBinData::validate` and its parts, of array.rs in vortex-array 0.89.0, written anew in Rattle as checks that refuse with a number and a place.
+//
+// The checks of opening, each a part that can be called apart.
+ghost use mathlib.Core.Path.{_≡_};
+ghost use mathlib.Core.Bool.{false};
+ghost use Prim.Native.Nat.{_+_, _^_, _<_};
+ghost use denote.Ref.{ptr};
+ghost use lib.ListN.{length};
+ghost use Rattle.std.specs.Options.{isSome};
+ghost use Rattle.mask.specs.Masks.{flags};
+ghost use Rattle.ptype.specs.Integers.{amountAt};
+ghost use Rattle.ptype.specs.Searches.{firstFall};
+ghost use Rattle.integers.specs.Slices.{integers};
+ghost use Rattle.refusal.specs.Refusals.{answer};
+ghost use Rattle.array.specs.Columns.{slotBytes};
+ghost use Rattle.array.specs.Opening.{limitsCheck, someCheck, validityCheck, layoutCheck, textCheck};
+use mask::mask::Mask;
+use integers::slices::IntegerSlice;
+use refusal::Refusal;
+use utf8::validate::validate_utf8;
+
+// The most rows and the most heap bytes of a column.
+pub const MOST_ROWS: u64 = 16_777_216;
+pub const MOST_HEAP_BYTES: u64 = 68_719_476_736;
+
+// 14 where there are too many rows or heap bytes.
+pub fn check_limits(rows: u64, heap_bytes: u64) -> Result<(), Refusal>
+    ensures { λ r. ⌜ answer r ≡ limitsCheck rows «heap_bytes» ⌝ }
+{
+    if rows > MOST_ROWS {
+        return Err(Refusal::OverLimit);
+    }
+    if heap_bytes > MOST_HEAP_BYTES {
+        return Err(Refusal::OverLimit);
+    }
+    Ok(())
+}
+
+// 15 where there are no offsets.
+pub fn check_some(offsets: u64) -> Result<(), Refusal>
+    ensures { λ r. ⌜ answer r ≡ someCheck offsets ⌝ }
+{
+    if offsets == 0 { Err(Refusal::NoOffsets) } else { Ok(()) }
+}
+
+// 16 where the validity does not fit the nullability or the rows.
+pub fn check_validity(nullable: bool, mask: Option<Mask<'_>>, rows: u64) -> Result<(), Refusal>
+    ensures { λ r. ⌜ answer r ≡ validityCheck nullable (mask .entry) rows ⌝ }
+{
+    match mask {
+        None => {
+            if nullable {
+                return Err(Refusal::ValidityMismatch);
+            }
+        }
+        Some(m) => {
+            if !nullable {
+                return Err(Refusal::ValidityMismatch);
+            }
+            if m.len() != rows {
+                return Err(Refusal::ValidityMismatch);
+            }
+            if !m.is_covered() {
+                return Err(Refusal::ValidityMismatch);
+            }
+        }
+    }
+    Ok(())
+}
+
+// 17 at the first offset that is negative, falls or leaves the heap.
+pub fn check_layout(offsets: IntegerSlice<'_>, heap_bytes: u64) -> Result<(), Refusal>
+    ensures { λ r. ⌜ answer r ≡ layoutCheck (integers (offsets .entry)) «heap_bytes» ⌝ }
+{
+    match offsets.first_fall(0, heap_bytes) {
+        Some(entry) => Err(Refusal::BadOffset { entry }),
+        None => Ok(()),
+    }
+}
+
+// Slot i of a column whose offsets never fall and stay in the heap: a part of the heap.
+pub fn slot_at<'a>(offsets: IntegerSlice<'_>, heap: &'a [u8], i: u64) -> &'a [u8]
+    requires rising { ⌜ isSome (firstFall (length (now heap)) 0 0 (integers offsets)) ≡ false ⌝ }
+    requires inside { ⌜ i + 1 < length (integers offsets) ⌝ }
+    requires small { ⌜ i + 1 < 2 ^ 64 ⌝ }
+    ensures bytes { λ r. ⌜ now r ≡ slotBytes (integers (offsets .entry)) (now (heap .entry)) i ⌝ }
+    ensures place { λ r. ⌜ ptr r ≡ (ptr (heap .entry) .0, ptr (heap .entry) .1 + amountAt (integers (offsets .entry)) i) ⌝ }
+{
+    let from = offsets.get(i).unwrap_or(0);
+    let to = offsets.get(i + 1).unwrap_or(0);
+    &heap[from as usize..to as usize]
+}
+
+// 18 at the first valid row that is not UTF-8, with the heap place of its bad character.
+pub fn check_text(offsets: IntegerSlice<'_>, heap: &[u8], validity: Mask<'_>) -> Result<(), Refusal>
+    requires { ⌜ isSome (firstFall (length (now heap)) 0 0 (integers offsets)) ≡ false ⌝ }
+    ensures { λ r. ⌜ answer r ≡ textCheck (integers (offsets .entry)) (now (heap .entry)) (flags (validity .entry)) ⌝ }
+{
+    for i in 0..offsets.len().saturating_sub(1) {
+        if validity.value(i) {
+            match validate_utf8(slot_at(offsets, heap, i)) {
+                Ok(()) => {}
+                Err(k) => {
+                    let from = offsets.get(i).unwrap_or(0);
+                    return Err(Refusal::NotUtf8 { entry: i, byte: from + k });
+                }
+            }
+        }
+    }
+    Ok(())
+}

@@ -1,0 +1,2 @@
+-- The meanings of slices of any kind.
+pub mod Slices

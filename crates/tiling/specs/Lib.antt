@@ -1,0 +1,2 @@
+-- The meaning of the tiling check and its law.
+pub mod Tiling
