@@ -1,0 +1,2 @@
+-- The meanings of offset stores.
+pub mod Stores
