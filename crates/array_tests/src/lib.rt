@@ -1,6 +1,8 @@
 // Opening and the tally on small columns: each refusal at its first place, the order of checks, all kinds, every form of mask.
 #[cfg(test)]
 mod tests {
+    use array::checks::check_limits;
+    use array::checks::check_validity;
     use array::reading::VarBinArraySource;
     use array::sample::sample_k;
     use array::tally::Tally;
@@ -57,6 +59,38 @@ mod tests {
         check_eq(text(IntegerSlice::I64(&[0, 1]), &[65]), (0, 0, 0))?;
         check_eq(nullable_text(IntegerSlice::U8(&[0, 1, 2]), &[65, 0xC2], 2, &[1]), (0, 0, 0))?;
         check_eq(nullable_text(IntegerSlice::U8(&[0, 1, 2]), &[65, 0xC2], 2, &[3]), (18, 1, 1))
+    }
+
+    // What opening answers for nullable bytes under a mask, and how many rows are then valid.
+    fn masked<'a>(offsets: IntegerSlice<'a>, heap: &'a [u8], mask: Mask<'a>) -> ((u8, u64, u64), u64) {
+        let mut view = VarBinArray::empty();
+        let answer = code(view.open(offsets, heap, Some(mask), true, false));
+        (answer, view.tally().valid)
+    }
+
+    #[test]
+    fn masks_of_every_form() -> Result<(), Fail> {
+        let offsets = IntegerSlice::U8(&[0, 0, 1]);
+        check_eq(masked(offsets, &[0xC2], Mask::new_true(2)), ((0, 0, 0), 2))?;
+        check_eq(masked(offsets, &[0xC2], Mask::new_false(2)), ((0, 0, 0), 0))?;
+        check_eq(masked(offsets, &[0xC2], Mask::Values { len: 2, bytes: &[0xFE] }), ((0, 0, 0), 1))?;
+        check_eq(masked(offsets, &[0xC2], Mask::new_true(3)), ((16, 0, 0), 0))?;
+        check_eq(masked(offsets, &[0xC2], Mask::new_false(1)), ((16, 0, 0), 0))?;
+        check_eq(masked(offsets, &[0xC2], Mask::Values { len: 2, bytes: &[] }), ((16, 0, 0), 0))
+    }
+
+    fn fits(nullable: bool, mask: Mask<'_>, rows: u64) -> (u8, u64, u64) {
+        code(check_validity(nullable, Some(mask), rows))
+    }
+
+    #[test]
+    fn limits() -> Result<(), Fail> {
+        check_eq(code(check_limits(16_777_216, 68_719_476_736)), (0, 0, 0))?;
+        check_eq(code(check_limits(16_777_217, 0)), (14, 0, 0))?;
+        check_eq(code(check_limits(0, 68_719_476_737)), (14, 0, 0))?;
+        check_eq(fits(false, Mask::new_true(1), 1), (16, 0, 0))?;
+        check_eq(fits(true, Mask::new_true(1), 1), (0, 0, 0))?;
+        check_eq(text(IntegerSlice::U8(&[0]), &[]), (0, 0, 0))
     }
 
     // The length of a row, or 99 for null and 100 for absent.

@@ -7,6 +7,7 @@ use crate::source::RowSource;
 // The most rows that a source shows.
 pub const MOST_ROWS: u64 = 4_294_967_295;
 
+#[derive(Drop)]
 pub struct Join<A, B> {
     first: A,
     second: B,
