@@ -1,0 +1,2 @@
+-- Lemmas on decoders.
+pub mod Pairs

@@ -1,0 +1,3 @@
+-- The meanings of decoders.
+pub mod Decoding
+pub mod Hexadecimal
