@@ -4,8 +4,10 @@ use crate::records::RECORD_BYTES;
 use array::reading::VarBinArraySource;
 use array::tally::Tally;
 use array::view::VarBinArray;
+use builder::builder::VarBinBuilder;
+use builder::finished::Finished;
+use builder::finished::Validity;
 use integers::slices::IntegerSlice;
-use mask::bits::put_bit;
 use mask::mask::Mask;
 use offsets::store::OffsetStore;
 use offsets::widening::I32Narrow;
@@ -22,8 +24,7 @@ use std::alloc::Refused;
 use std::fmt;
 use std::fmt::Write;
 
-// The most records that are listed, and the most bytes that they have.
-pub const CAPACITY: u64 = 256;
+// The heap bytes of 256 records.
 pub const HEAP_BYTES: usize = 3584;
 
 // Why there is no listing: a record or a row was refused, or there was no memory for it.
@@ -68,52 +69,37 @@ pub impl fmt::Display for ListingError as ListingErrorDisplay {
     }
 }
 
-// Copies a value behind the used heap bytes, and tells how many are used then.
-fn put_value(heap: &mut [u8], used: usize, value: &[u8]) -> Result<usize, Refusal> {
-    match used.checked_add(value.len()) {
-        Some(end) => {
-            if end > heap.len() {
-                return Err(Refusal::BytesOverHeap);
-            }
-            heap[used..end].copy_from_slice(value);
-            Ok(end)
-        }
-        None => Err(Refusal::BytesOverHeap),
-    }
-}
-
-// Adds a row: its bytes, its bit and its end.
-fn add_row<S: OffsetStore>(store: &mut S, heap: &mut [u8], bits: &mut [u8], row: u64, used: usize, value: Option<&[u8]>) -> Result<usize, Refusal> {
-    if row >= CAPACITY {
-        return Err(Refusal::RowsOverCapacity);
-    }
-    let end = match value {
-        Some(bytes) => put_value(heap, used, bytes)?,
-        None => used,
-    };
-    put_bit(bits, row, value.is_some());
-    if store.push(end as u64) { Ok(end) } else { Err(Refusal::RowsOverCapacity) }
-}
-
-// Reads the records into a column, and tells its rows and used bytes.
-fn read_records<S: OffsetStore>(store: &mut S, heap: &mut [u8], bits: &mut [u8], input: &[u8]) -> Result<(u64, usize), ListingError> {
+// Appends the row of each record.
+fn append_records<S: OffsetStore>(builder: &mut VarBinBuilder, store: &mut S, heap: &mut [u8], bits: &mut [u8], input: &[u8]) -> Result<(), ListingError> {
     let mut entry = 0u64;
-    let mut used = 0;
-    if !store.push(0) {
-        return Err(ListingError::Record { entry, refusal: Refusal::StoreNotFresh });
-    }
-    for bytes in input.chunks(RECORD_BYTES) {
-        let value = match read_record(entry, bytes) {
-            Ok(value) => value,
-            Err(refusal) => return Err(ListingError::Record { entry, refusal }),
+    for record in input.chunks(RECORD_BYTES) {
+        let appended = match read_record(entry, record) {
+            Ok(Some(value)) => builder.append_value(store, heap, bits, value),
+            Ok(None) => builder.push_nulls(store, heap, bits, 1),
+            Err(refusal) => Err(refusal),
         };
-        match add_row(store, heap, bits, entry, used, value) {
-            Ok(end) => used = end,
+        match appended {
+            Ok(()) => {}
             Err(refusal) => return Err(ListingError::Record { entry, refusal }),
         }
         entry = entry.saturating_add(1);
     }
-    Ok((entry, used))
+    Ok(())
+}
+
+// Builds a column of nullable text from the records.
+fn build<S: OffsetStore>(store: &mut S, heap: &mut [u8], bits: &mut [u8], input: &[u8]) -> Result<Finished, ListingError> {
+    let mut builder = match VarBinBuilder::new(true, true, store, heap, bits) {
+        Ok(builder) => builder,
+        Err(refusal) => return Err(ListingError::Record { entry: 0, refusal }),
+    };
+    match append_records(&mut builder, store, heap, bits, input) {
+        Ok(()) => Ok(builder.finish()),
+        Err(error) => {
+            let _ = builder.discard();
+            Err(error)
+        }
+    }
 }
 
 fn write_row(text: &mut String, i: u32, row: RowRef<'_>) -> Result<(), ListingError> {
@@ -164,15 +150,26 @@ pub fn list_fields(memory: Global, input: &[u8]) -> Result<String, ListingError>
     let mut heap = [0u8; HEAP_BYTES];
     let mut bits = [0u8; 32];
     let mut store = Offsets::new(&mut narrow, &mut wide);
-    let (rows, used) = read_records(&mut store, &mut heap, &mut bits, input)?;
-    list_store(memory, &store, &heap, used, &bits, rows)
+    let finished = build(&mut store, &mut heap, &mut bits, input)?;
+    list_store(memory, &store, &heap, &bits, finished)
 }
 
-// Lists the column that a store, a heap and bits hold.
-fn list_store<'a>(memory: Global, store: &'a Offsets<'a, i32>, heap: &'a [u8], used: usize, bytes: &'a [u8], rows: u64) -> Result<String, ListingError> {
+// The validity of a finished column, over its bit bytes.
+fn validity_mask<'a>(finished: Finished, bytes: &'a [u8]) -> Mask<'a> {
+    match finished.validity {
+        Validity::NonNullable => Mask::new_true(finished.rows),
+        Validity::AllValid => Mask::new_true(finished.rows),
+        Validity::AllInvalid => Mask::new_false(finished.rows),
+        Validity::Bits => Mask::Values { len: finished.rows, bytes },
+    }
+}
+
+// Lists the finished column that a store, a heap and bits hold.
+fn list_store<'a>(memory: Global, store: &'a Offsets<'a, i32>, heap: &'a [u8], bits: &'a [u8], finished: Finished) -> Result<String, ListingError> {
     let width = store.width();
-    let validity = Mask::Values { len: rows, bytes };
-    let heap = &heap[0..used.min(heap.len())];
+    let validity = validity_mask(finished, bits);
+    let used = (heap.len() as u64).min(finished.bytes) as usize;
+    let heap = &heap[0..used];
     if let Some(offsets) = store.as_narrow() {
         return list_column(memory, IntegerSlice::I32(offsets), heap, validity, width);
     }

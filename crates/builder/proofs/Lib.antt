@@ -1,0 +1,4 @@
+-- Lemmas on builders.
+pub mod Filling
+pub mod Memory
+pub mod Spaces
