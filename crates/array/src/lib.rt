@@ -5,4 +5,5 @@ pub mod opening;
 pub mod reading;
 pub mod sample;
 pub mod tally;
+pub mod text;
 pub mod view;

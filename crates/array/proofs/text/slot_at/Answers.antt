@@ -9,7 +9,7 @@ use Rattle.ptype.specs.Integers.{amountAt}
 use Rattle.integers.specs.Slices.{integers}
 use Rattle.ptype.proofs.Naturals.{entry-read}
 use Rattle.array.proofs.Slots.{bounds}
-use Rattle.array.proofs.checks.slot_at.Needs as need
+use Rattle.array.proofs.text.slot_at.Needs as need
 
 pub part-result-count : need.part-result-count
 part-result-count c =

@@ -9,8 +9,8 @@ use Rattle.integers.specs.Slices.{integers}
 use Rattle.ptype.proofs.Naturals.{entry-read}
 use Rattle.array.proofs.Slots.{bounds}
 use Rattle.array.proofs.Texts.{bad-inside, length-between, pass-null, pass-text, stop}
-use Rattle.array.proofs.checks.check_text.Needs as need
-use Rattle.array.proofs.checks.check_text.Needs.{then-value·in-Ok, else-value}
+use Rattle.array.proofs.text.check_text.Needs as need
+use Rattle.array.proofs.text.check_text.Needs.{then-value·in-Ok, else-value}
 
 pub add-result : need.add-result
 add-result c =
