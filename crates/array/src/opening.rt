@@ -1,3 +1,7 @@
+// SPDX-License-Identifier: Apache-2.0
+// SPDX-FileCopyrightText: Copyright the Vortex contributors
+// Changed: making a `VarBinArray`, of array.rs in vortex-array 0.89.0, written anew in Rattle; opening fills a view that the caller holds.
+//
 // Opening fills a view that the caller holds; refused, the view stays.
 ghost use mathlib.Core.Path.{_≡_};
 ghost use mathlib.Core.Bool.{false};

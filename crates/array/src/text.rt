@@ -1,3 +1,7 @@
+// SPDX-License-Identifier: Apache-2.0
+// SPDX-FileCopyrightText: Copyright the Vortex contributors
+// Changed: `validate_utf8` and `bytes_at` of array.rs in vortex-array 0.89.0, written anew in Rattle; a row that is not UTF-8 is named with the place of its bad character.
+//
 // Inner: the slots of a column whose offsets are known to never fall and to stay in the heap, and the check of their text.
 ghost use mathlib.Core.Path.{_≡_};
 ghost use mathlib.Core.Bool.{false};

@@ -1,3 +1,7 @@
+// SPDX-License-Identifier: Apache-2.0
+// SPDX-FileCopyrightText: Copyright the Vortex contributors
+// Changed: `Validity` of validity.rs in vortex-array 0.89.0, without its array: a finished record carries no bits.
+//
 // The record of a finished column.
 #[derive(Clone, Copy)]
 pub enum Validity {

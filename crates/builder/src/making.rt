@@ -1,3 +1,7 @@
+// SPDX-License-Identifier: Apache-2.0
+// SPDX-FileCopyrightText: Copyright the Vortex contributors
+// Changed: making and finishing a `VarBinBuilder`, of builder.rs in vortex-array 0.89.0, written anew in Rattle over lent memory; finishing spends the builder and looks at no memory.
+//
 // Making a builder, and ending it.
 ghost use mathlib.Core.Path.{_≡_};
 ghost use lib.ListN.{length};

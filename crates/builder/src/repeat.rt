@@ -1,3 +1,7 @@
+// SPDX-License-Identifier: Apache-2.0
+// SPDX-FileCopyrightText: Copyright the Vortex contributors
+// Changed: `append_value`, `append_n_values` and `push_nulls` of builder.rs in vortex-array 0.89.0, written anew in Rattle; each refuses with a number where the Rust panics or accepts too much.
+//
 // Appends of equal slots: values and nulls.
 ghost use mathlib.Core.Path.{_≡_};
 ghost use mathlib.Core.Bool.{true, false};
