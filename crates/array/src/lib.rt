@@ -1,4 +1,5 @@
 // Columns over lent memory: opening one, its rows, and its tally.
+#![tactic(auto)]
 pub mod checks;
 pub mod completeness;
 pub mod opening;

@@ -1,4 +1,5 @@
 // The copy and the hexadecimal decoder: what they write, and each fault.
+#![tactic(auto)]
 #[cfg(test)]
 mod tests {
     use decoder::copy::CopyDecoder;

@@ -1,4 +1,5 @@
 // Tests of masks and of bits in lent bytes. What is expected is written by hand, the lowest bit of a byte first.
+#![tactic(auto)]
 ghost use Rattle.std.specs.Prelude.{◌+◌, ◌<◌};
 
 use mask::bits;

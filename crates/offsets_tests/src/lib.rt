@@ -1,4 +1,5 @@
 // Tests of the offset stores: which pushes each takes, what it then holds, and when it widens.
+#![tactic(auto)]
 use offsets::fixed::FixedOffsets;
 use offsets::store::OffsetStore;
 use offsets::widening::Offsets;

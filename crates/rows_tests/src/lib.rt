@@ -1,4 +1,5 @@
 // Repeated rows and joins, row by row, and the cut at the most that a source shows.
+#![tactic(auto)]
 #[cfg(test)]
 mod tests {
     use rows::join::Join;

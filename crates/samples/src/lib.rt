@@ -1,4 +1,5 @@
 // Worked examples over sample column K: what selections from it answer and leave.
+#![tactic(auto)]
 ghost use Rattle.std.specs.Prelude.{◌≡◌};
 ghost use Rattle.array.specs.Samples.{sample_k};
 ghost use Rattle.samples.specs.Selecting.{SelectionExamples};

@@ -3,6 +3,7 @@
 // Changed: `offsets_tile_utf8` of array.rs in vortex-array 0.89.0, written anew in Rattle; negative offsets are told apart, and nothing panics.
 //
 // The tiling check: whether offsets cut a heap into strings of UTF-8, in one pass over the bytes.
+#![tactic(auto)]
 ghost use Rattle.std.specs.Prelude.{◌≡◌, ℕ, ◌<◌, ◌≤◌, length, Decides};
 ghost use Rattle.ptype.specs.Integers.{amount_at};
 ghost use Rattle.integers.specs.Slices.{integers};

@@ -1,4 +1,5 @@
 // Tests of the tiling check: tables of offsets, a heap, and whether the offsets tile it.
+#![tactic(auto)]
 use integers::slices::IntegerSlice;
 use std::process::Abort;
 use std::test::Fail;

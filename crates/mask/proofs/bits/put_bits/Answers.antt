@@ -8,7 +8,7 @@ pub loop-i-preserved : goal.loop-i-preserved
 unfolding put_bits
 loop-i-preserved c =
     let more : c.args.from + c.args.n - c.loop-i.i ≡ suc (c.args.from + c.args.n - (c.loop-i.i + 1)) = omega arith in
-    ap (λ bs. put_bits bs (c.loop-i.i + 1) (replicate (c.args.from + c.args.n - (c.loop-i.i + 1)) c.args.v)) c.put-bit.ensures.after
+    ap (λ bs. put_bits bs (c.loop-i.i + 1) (replicate (c.args.from + c.args.n - (c.loop-i.i + 1)) c.args.v)) c.put_bit.ensures.after
     ∙ ap (λ m. put_bits c.loop-i.bytes c.loop-i.i (replicate m c.args.v)) (sym more)
     ∙ c.loop-i.invariant
 

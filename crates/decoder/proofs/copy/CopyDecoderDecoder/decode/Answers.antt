@@ -6,6 +6,6 @@ use Rattle.decoder.proofs.copy.CopyDecoderDecoder.decode.Goals as goal
 pub returns : goal.returns
 returns c = record {
   answer = search rules;
-  written = take_at c.copy-from-slice.new.self _ (length c.args.self.now.bytes.now) (ap length c.copy-from-slice.ensures.after) ∙ c.copy-from-slice.ensures.after;
+  written = take_at c.copy_from_slice.new.self _ (length c.args.self.now.bytes.now) (ap length c.copy_from_slice.ensures.after) ∙ c.copy_from_slice.ensures.after;
   kept = refl;
 }

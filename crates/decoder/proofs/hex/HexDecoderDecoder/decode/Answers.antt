@@ -25,7 +25,7 @@ returns-in-None-digit-value c =
     record { answer = sym (ap (λ o. decode_answer o (length c.args.part.now)) fault); written = begins_none (hex_bytes c.args.self.now.digits.now) _; kept = refl }
 
 pub loop-i-preserved : goal.loop-i-preserved
-loop-i-preserved c = good c.args.self.now.digits.now c.loop-i.part c.loop-i.i (hex_bytes c.args.self.now.digits.now) (omega arith) c.loop-i.invariant c.in-Some.high c.in-Some-digit-value.low (omega arith) c.in-Some.ensures.value c.in-Some-digit-value.ensures.value
+loop-i-preserved c = good c.args.self.now.digits.now c.loop-i.part c.loop-i.i (hex_bytes c.args.self.now.digits.now) (omega arith) c.loop-i.invariant c.in-Some.high c.in-Some-digit_value.low (omega arith) c.in-Some.ensures.value c.in-Some-digit_value.ensures.value
 
 pub returns : goal.returns
 returns c =
