@@ -38,14 +38,14 @@ all_bytes bs n i h =
     (λ (l : n ≤ 8 * i). let all : min n (8 * i) ≡ n = omega arith in ap (λ m. set_count (bit_flags m bs)) all)
     (cases_lt (8 * i) n)
 
-pub overflow-add-total : goal.overflow-add-total
-overflow-add-total c =
+pub overflow_add-total : goal.overflow_add-total
+overflow_add-total c =
     let e = whole_byte _ _ c.loop-i.i _ c.loop-i.invariant (search rules) c.if-i-whole.true in
     let l = upto_le c.args.bytes.now c.args.n (c.loop-i.i + 1) in
     search rules
 
-pub overflow-add-total-then-i-whole-2 : goal.overflow-add-total-then-i-whole-2
-overflow-add-total-then-i-whole-2 c =
+pub overflow_add-total-then-i-whole-2 : goal.overflow_add-total-then-i-whole-2
+overflow_add-total-then-i-whole-2 c =
     let e = last_byte _ _ c.loop-i.i _ c.loop-i.invariant (search rules) c.if-i-whole-2.true in
     let l = upto_le c.args.bytes.now c.args.n (c.loop-i.i + 1) in
     search rules

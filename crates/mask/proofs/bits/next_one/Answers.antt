@@ -10,10 +10,10 @@ pub returns-then-i-bytes : goal.returns-then-i-bytes
 returns-then-i-bytes c = not_found _ _ _ c.args.from (before_from _ _) (inr (omega arith))
 
 pub loop-byte-init : goal.loop-byte-init
-loop-byte-init c = (start _ _ (c.ok.bytes _).fits, omega arith, omega arith)
+loop-byte-init c = (start _ _ (c.type_inv.bytes _).fits, omega arith, omega arith)
 
 pub loop-byte-preserved : goal.loop-byte-preserved
-loop-byte-preserved c = (on _ _ _ _ c.loop-byte.invariant.1 c.loop-byte.invariant.0 (search rules) (c.ok.bytes _).fits, omega (arith, c.loop-byte.invariant.1), search rules)
+loop-byte-preserved c = (on _ _ _ _ c.loop-byte.invariant.1 c.loop-byte.invariant.0 (search rules) (c.type_inv.bytes _).fits, omega (arith, c.loop-byte.invariant.1), search rules)
 
 pub returns-then-i-n : goal.returns-then-i-n
 returns-then-i-n c = not_found _ _ _ _ (none_here _ _ _ c.loop-byte.invariant.0 c.loop-byte-test.true) (⊎_elim (λ h. inl (omega arith)) (λ h. inr (omega arith)) c.then-i-n.either)

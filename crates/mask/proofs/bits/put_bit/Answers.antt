@@ -11,7 +11,7 @@ each_bit bs cs i v e k = ap (λ l. bit_at l k) e ∙ bit_put bs i v k
 
 pub returns-then-at-bytes : goal.returns-then-at-bytes
 returns-then-at-bytes c =
-    let e = ap (set c.args.bytes.now (c.args.i / 8)) c.with_bit_lem.ensures in
+    let e = ap (set c.args.bytes.now (c.args.i / 8)) c.with_bit.ensures in
     record { after = e; each = each_bit _ _ c.args.i c.args.v e }
 
 pub returns-else-at-bytes : goal.returns-else-at-bytes

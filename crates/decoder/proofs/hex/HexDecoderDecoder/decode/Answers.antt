@@ -19,9 +19,9 @@ returns-in-None c =
     let fault = bad_high c.args.self.now.digits.now c.loop-i.part c.loop-i.i (hex_bytes c.args.self.now.digits.now) (omega arith) c.loop-i.invariant c.in-None.ensures.value in
     record { answer = sym (ap (λ o. decode_answer o (length c.args.part.now)) fault); written = begins_none (hex_bytes c.args.self.now.digits.now) _; kept = refl }
 
-pub returns-in-None-digit-value : goal.returns-in-None-digit-value
-returns-in-None-digit-value c =
-    let fault = bad_low c.args.self.now.digits.now c.loop-i.part c.loop-i.i (hex_bytes c.args.self.now.digits.now) (omega arith) c.loop-i.invariant c.in-None-digit-value.ensures.value in
+pub returns-in-None-digit_value : goal.returns-in-None-digit_value
+returns-in-None-digit_value c =
+    let fault = bad_low c.args.self.now.digits.now c.loop-i.part c.loop-i.i (hex_bytes c.args.self.now.digits.now) (omega arith) c.loop-i.invariant c.in-None-digit_value.ensures.value in
     record { answer = sym (ap (λ o. decode_answer o (length c.args.part.now)) fault); written = begins_none (hex_bytes c.args.self.now.digits.now) _; kept = refl }
 
 pub loop-i-preserved : goal.loop-i-preserved
