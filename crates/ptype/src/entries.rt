@@ -21,7 +21,7 @@ impl<'a, T: IntegerPType> Entries<'a, T> {
 
     // The number at i: none from the length on, and none where it is negative.
     pub fn get(&self, i: u64) -> Option<u64>
-        ensures { result ≡ natural_at (map value self.now.values.now) i }
+        ensures { result ≡ natural_at (map T.value self.now.values.now) i }
     {
         if i < self.values.len() as u64 {
             self.values[i as usize].to_u64()
@@ -32,7 +32,7 @@ impl<'a, T: IntegerPType> Entries<'a, T> {
 
     // The first entry with a set flag that is negative or not below the limit.
     pub fn first_not_below(&self, mask: Mask<'_>, limit: u64) -> Option<u64>
-        ensures { result ≡ first_not_below limit 0 (flags mask.entry) (map value self.now.values.now) }
+        ensures { result ≡ first_not_below limit 0 (flags mask.entry) (map T.value self.now.values.now) }
     {
         for i in 0..self.values.len() {
             if mask.value(i as u64) {
@@ -51,7 +51,7 @@ impl<'a, T: IntegerPType> Entries<'a, T> {
 
     // The first entry that is negative, falls below the one before it (below `low` for the first), or passes the limit.
     pub fn first_fall(&self, low: u64, limit: u64) -> Option<u64>
-        ensures { result ≡ first_fall limit low 0 (map value self.now.values.now) }
+        ensures { result ≡ first_fall limit low 0 (map T.value self.now.values.now) }
     {
         let mut last = low;
         for i in 0..self.values.len() {
@@ -73,7 +73,7 @@ impl<'a, T: IntegerPType> Entries<'a, T> {
 
     // The first length that is negative or runs past `bytes`, when they are laid one behind the other.
     pub fn first_overrun(&self, bytes: u64) -> Option<u64>
-        ensures { result ≡ first_overrun bytes 0 (map value self.now.values.now) }
+        ensures { result ≡ first_overrun bytes 0 (map T.value self.now.values.now) }
     {
         let mut left = bytes;
         for i in 0..self.values.len() {
@@ -92,7 +92,7 @@ impl<'a, T: IntegerPType> Entries<'a, T> {
 
     // The sum of all entries, a negative one counting 0; none where it does not fit 64 bits.
     pub fn total(&self) -> Option<u64>
-        ensures { result ≡ in_u64 (total (map value self.now.values.now)) }
+        ensures { result ≡ in_u64 (total (map T.value self.now.values.now)) }
     {
         let mut sum: u64 = 0;
         for i in 0..self.values.len() {

@@ -5,7 +5,7 @@ use Rattle.ptype.proofs.Naturals.{at_in, at_past}
 use Rattle.ptype.proofs.entries.Entries.get.Goals as goal
 
 pub returns-then-i-self : goal.returns-then-i-self
-returns-then-i-self g c = c.to-u64.ensures.value ∙ at_in g.T.IntegerPType.value c.args.self.now.values.now c.args.i c.index-self-i.result c.if-i-self.true
+returns-then-i-self g c = c.to_u64.ensures.value ∙ at_in g.T.IntegerPType.value c.args.self.now.values.now c.args.i c.index-self-i.result c.if-i-self.true
 
 pub returns-else-i-self : goal.returns-else-i-self
 returns-else-i-self g c =

@@ -4,8 +4,8 @@ use Rattle.std.specs.List.{slice_get}
 use Rattle.rows.proofs.Places.{nth_take, nth_take_past, nth_left, nth_after}
 use Rattle.rows.proofs.join.JoinRowSource.row.Goals as goal
 
-pub returns-then-i-ge-MOST-ROWS : goal.returns-then-i-ge-MOST-ROWS
-returns-then-i-ge-MOST-ROWS g c = sym (nth_take_past 4294967295 _ _ c.if-i-ge-MOST-ROWS.true)
+pub returns-then-i-ge-MOST_ROWS : goal.returns-then-i-ge-MOST_ROWS
+returns-then-i-ge-MOST_ROWS g c = sym (nth_take_past 4294967295 _ _ c.if-i-ge-MOST_ROWS.true)
 
 pub returns-then-i-count : goal.returns-then-i-count
 returns-then-i-count g c =
