@@ -47,9 +47,9 @@ fn decode_part<D: Decoder>(
     num_bytes: u64,
     lengths: IntegerSlice<'_>,
 ) -> Result<(), Refusal>
-    ensures answer { answer result ≡ first_refusal (decode_checks (means decoder.old) (length part.old) num_bytes (integers lengths.entry)) }
-    ensures part { part.new ≡ decoded_part (means decoder.old) (answer result) (length part.old) }
-    ensures kept { means decoder.new ≡ means decoder.old }
+    ensures answer { answer result ≡ first_refusal (decode_checks (D.means decoder.old) (length part.old) num_bytes (integers lengths.entry)) }
+    ensures part { part.new ≡ decoded_part (D.means decoder.old) (answer result) (length part.old) }
+    ensures kept { D.means decoder.new ≡ D.means decoder.old }
 {
     let mut spare = SpareBytes { part, keep: 0 };
     let told = match decoder.decode(spare.part) {
@@ -81,9 +81,9 @@ fn place_lengths<S: OffsetStore>(
     lengths: IntegerSlice<'_>,
     validity: Mask<'_>,
 )
-    requires fit { RowsFit (state_of offsets free top b.old store.old [] bits.old) (length (integers lengths)) (total (integers lengths)) }
+    requires fit { RowsFit (state_of S.offsets S.free S.top b.old store.old [] bits.old) (length (integers lengths)) (total (integers lengths)) }
     requires counts { length (integers lengths) ≡ length (flags validity) }
-    ensures { (heap : List ℕ) → state_of offsets free top b.new store.new heap bits.new ≡ addRows (state_of offsets free top b.old store.old heap bits.old) (flags validity.entry) (map amount (integers lengths.entry)) }
+    ensures { (heap : List ℕ) → state_of S.offsets S.free S.top b.new store.new heap bits.new ≡ addRows (state_of S.offsets S.free S.top b.old store.old heap bits.old) (flags validity.entry) (map amount (integers lengths.entry)) }
 {
     for i in 0..lengths.len() {
         let size = lengths.get(i).unwrap_or(0);
@@ -102,7 +102,7 @@ fn check_decode<S: OffsetStore>(
     lengths: IntegerSlice<'_>,
     validity: Mask<'_>,
 ) -> Result<(), Refusal>
-    ensures { answer result ≡ first_refusal (checks_before (state_of offsets free top b.now store.now heap.now bits.now) num_bytes slack (integers lengths.entry) validity.entry) }
+    ensures { answer result ≡ first_refusal (checks_before (state_of S.offsets S.free S.top b.now store.now heap.now bits.now) num_bytes slack (integers lengths.entry) validity.entry) }
 {
     check_memory(b, store, heap, bits)?;
     check_counts(lengths, validity)?;
@@ -128,9 +128,9 @@ impl VarBinBuilder {
         validity: Mask<'_>,
         decoder: &mut D,
     ) -> Result<(), Refusal>
-        ensures answer { answer result ≡ decoded_answer (state_of offsets free top self.old store.old heap.old bits.old) num_bytes slack (integers lengths.entry) validity.entry (means decoder.old) }
-        ensures after { state_of offsets free top self.new store.new heap.new bits.new ≡ decoded (state_of offsets free top self.old store.old heap.old bits.old) (first_refusal (checks_before (state_of offsets free top self.old store.old heap.old bits.old) num_bytes slack (integers lengths.entry) validity.entry)) (answer result) (num_bytes + slack) (decoded_slots (means decoder.old) (integers lengths.entry) validity.entry) }
-        ensures kept { means decoder.new ≡ means decoder.old }
+        ensures answer { answer result ≡ decoded_answer (state_of S.offsets S.free S.top self.old store.old heap.old bits.old) num_bytes slack (integers lengths.entry) validity.entry (D.means decoder.old) }
+        ensures after { state_of S.offsets S.free S.top self.new store.new heap.new bits.new ≡ decoded (state_of S.offsets S.free S.top self.old store.old heap.old bits.old) (first_refusal (checks_before (state_of S.offsets S.free S.top self.old store.old heap.old bits.old) num_bytes slack (integers lengths.entry) validity.entry)) (answer result) (num_bytes + slack) (decoded_slots (D.means decoder.old) (integers lengths.entry) validity.entry) }
+        ensures kept { D.means decoder.new ≡ D.means decoder.old }
     {
         check_decode(self, store, heap, bits, num_bytes, slack, lengths, validity)?;
         let from = self.used as usize;

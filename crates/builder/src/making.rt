@@ -28,8 +28,8 @@ impl VarBinBuilder {
         heap: &[u8],
         bits: &[u8],
     ) -> Result<VarBinBuilder, Refusal>
-        ensures answer { answer result ≡ make_answer (length (offsets store.old)) (free store.old) (length heap.now) }
-        ensures after { MatchResult result (λ b. state_of offsets free top b store.new heap.now bits.now ≡ made nullable (free store.old) (top store.old) heap.now bits.now) (λ _. store.new ≡ store.old) }
+        ensures answer { answer result ≡ make_answer (length (S.offsets store.old)) (S.free store.old) (length heap.now) }
+        ensures after { MatchResult result (λ b. state_of S.offsets S.free S.top b store.new heap.now bits.now ≡ made nullable (S.free store.old) (S.top store.old) heap.now bits.now) (λ _. store.new ≡ store.old) }
     {
         let heap_left = heap.len() as u64;
         if heap_left > MOST_HEAP_BYTES {

@@ -27,8 +27,8 @@ pub fn place<S: OffsetStore>(
     valid: bool,
     value: &[u8],
 )
-    requires { Room (state_of offsets free top b.old store.old heap.old bits.old) (length value.now) }
-    ensures { state_of offsets free top b.new store.new heap.new bits.new ≡ add_slot (state_of offsets free top b.old store.old heap.old bits.old) (slot valid value.now) }
+    requires { Room (state_of S.offsets S.free S.top b.old store.old heap.old bits.old) (length value.now) }
+    ensures { state_of S.offsets S.free S.top b.new store.new heap.new bits.new ≡ add_slot (state_of S.offsets S.free S.top b.old store.old heap.old bits.old) (slot valid value.now) }
 {
     let used = b.used;
     let rows = b.rows;

@@ -25,8 +25,8 @@ fn place_n<S: OffsetStore>(
     value: &[u8],
     n: u64,
 )
-    requires { Fits (state_of offsets free top b.old store.old heap.old bits.old) (replicate n (slot valid value.now)) }
-    ensures { state_of offsets free top b.new store.new heap.new bits.new ≡ add_slots (state_of offsets free top b.old store.old heap.old bits.old) (replicate n (slot valid value.now)) }
+    requires { Fits (state_of S.offsets S.free S.top b.old store.old heap.old bits.old) (replicate n (slot valid value.now)) }
+    ensures { state_of S.offsets S.free S.top b.new store.new heap.new bits.new ≡ add_slots (state_of S.offsets S.free S.top b.old store.old heap.old bits.old) (replicate n (slot valid value.now)) }
 {
     for _i in 0..n {
         place(b, store, heap, bits, valid, value);
@@ -43,8 +43,8 @@ fn append_repeated<S: OffsetStore>(
     value: &[u8],
     n: u64,
 ) -> Result<(), Refusal>
-    ensures answer { answer result ≡ append_answer (state_of offsets free top b.old store.old heap.old bits.old) [] (replicate n (slot valid value.now)) }
-    ensures after { state_of offsets free top b.new store.new heap.new bits.new ≡ appended (state_of offsets free top b.old store.old heap.old bits.old) (answer result) (replicate n (slot valid value.now)) }
+    ensures answer { answer result ≡ append_answer (state_of S.offsets S.free S.top b.old store.old heap.old bits.old) [] (replicate n (slot valid value.now)) }
+    ensures after { state_of S.offsets S.free S.top b.new store.new heap.new bits.new ≡ appended (state_of S.offsets S.free S.top b.old store.old heap.old bits.old) (answer result) (replicate n (slot valid value.now)) }
 {
     check_memory(b, store, heap, bits)?;
     let bytes = n.saturating_mul(value.len() as u64);
@@ -67,8 +67,8 @@ impl VarBinBuilder {
         bits: &mut [u8],
         value: &[u8],
     ) -> Result<(), Refusal>
-        ensures answer { answer result ≡ append_answer (state_of offsets free top self.old store.old heap.old bits.old) [] (slot true value.now ∷ []) }
-        ensures after { state_of offsets free top self.new store.new heap.new bits.new ≡ appended (state_of offsets free top self.old store.old heap.old bits.old) (answer result) (slot true value.now ∷ []) }
+        ensures answer { answer result ≡ append_answer (state_of S.offsets S.free S.top self.old store.old heap.old bits.old) [] (slot true value.now ∷ []) }
+        ensures after { state_of S.offsets S.free S.top self.new store.new heap.new bits.new ≡ appended (state_of S.offsets S.free S.top self.old store.old heap.old bits.old) (answer result) (slot true value.now ∷ []) }
     {
         append_repeated(self, store, heap, bits, true, value, 1)
     }
@@ -82,8 +82,8 @@ impl VarBinBuilder {
         value: &[u8],
         n: u64,
     ) -> Result<(), Refusal>
-        ensures answer { answer result ≡ append_answer (state_of offsets free top self.old store.old heap.old bits.old) [] (replicate n (slot true value.now)) }
-        ensures after { state_of offsets free top self.new store.new heap.new bits.new ≡ appended (state_of offsets free top self.old store.old heap.old bits.old) (answer result) (replicate n (slot true value.now)) }
+        ensures answer { answer result ≡ append_answer (state_of S.offsets S.free S.top self.old store.old heap.old bits.old) [] (replicate n (slot true value.now)) }
+        ensures after { state_of S.offsets S.free S.top self.new store.new heap.new bits.new ≡ appended (state_of S.offsets S.free S.top self.old store.old heap.old bits.old) (answer result) (replicate n (slot true value.now)) }
     {
         append_repeated(self, store, heap, bits, true, value, n)
     }
@@ -96,8 +96,8 @@ impl VarBinBuilder {
         bits: &mut [u8],
         n: u64,
     ) -> Result<(), Refusal>
-        ensures answer { answer result ≡ append_answer (state_of offsets free top self.old store.old heap.old bits.old) [] (replicate n (slot false [])) }
-        ensures after { state_of offsets free top self.new store.new heap.new bits.new ≡ appended (state_of offsets free top self.old store.old heap.old bits.old) (answer result) (replicate n (slot false [])) }
+        ensures answer { answer result ≡ append_answer (state_of S.offsets S.free S.top self.old store.old heap.old bits.old) [] (replicate n (slot false [])) }
+        ensures after { state_of S.offsets S.free S.top self.new store.new heap.new bits.new ≡ appended (state_of S.offsets S.free S.top self.old store.old heap.old bits.old) (answer result) (replicate n (slot false [])) }
     {
         append_repeated(self, store, heap, bits, false, &[], n)
     }

@@ -15,7 +15,7 @@ pub fn check_memory<S: OffsetStore>(
     heap: &[u8],
     bits: &[u8],
 ) -> Result<(), Refusal>
-    ensures { answer result ≡ memory_check (state_of offsets free top b.now store.now heap.now bits.now) }
+    ensures { answer result ≡ memory_check (state_of S.offsets S.free S.top b.now store.now heap.now bits.now) }
 {
     if store.len() != b.rows + 1 {
         return Err(Refusal::OtherMemory);
@@ -45,7 +45,7 @@ pub fn check_space<S: OffsetStore>(
     bytes: u64,
     asked: u64,
 ) -> Result<(), Refusal>
-    ensures { answer result ≡ first_refusal (space_checks b.now.nullable b.now.capacity b.now.rows b.now.used (length heap.now) (top store.now) rows nulls bytes asked) }
+    ensures { answer result ≡ first_refusal (space_checks b.now.nullable b.now.capacity b.now.rows b.now.used (length heap.now) (S.top store.now) rows nulls bytes asked) }
 {
     if !b.nullable {
         if nulls > 0 {

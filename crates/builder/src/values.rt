@@ -84,10 +84,10 @@ fn place_values<S: OffsetStore>(
     ends: IntegerSlice<'_>,
     validity: Mask<'_>,
 )
-    requires fit { Fits (state_of offsets free top b.old store.old heap.old bits.old) (value_slots values.now (integers ends) validity) }
+    requires fit { Fits (state_of S.offsets S.free S.top b.old store.old heap.old bits.old) (value_slots values.now (integers ends) validity) }
     requires rise { first_fall (length values.now) 0 0 (integers ends) ≡ None }
     requires counts { length (integers ends) ≡ length (flags validity) }
-    ensures { state_of offsets free top b.new store.new heap.new bits.new ≡ add_slots (state_of offsets free top b.old store.old heap.old bits.old) (value_slots values.now (integers ends.entry) validity.entry) }
+    ensures { state_of S.offsets S.free S.top b.new store.new heap.new bits.new ≡ add_slots (state_of S.offsets S.free S.top b.old store.old heap.old bits.old) (value_slots values.now (integers ends.entry) validity.entry) }
 {
     let mut from = 0;
     for i in 0..ends.len() {
@@ -115,8 +115,8 @@ impl VarBinBuilder {
         ends: IntegerSlice<'_>,
         validity: Mask<'_>,
     ) -> Result<(), Refusal>
-        ensures answer { answer result ≡ append_answer (state_of offsets free top self.old store.old heap.old bits.old) (values_checks values.now (integers ends.entry) validity.entry) (value_slots values.now (integers ends.entry) validity.entry) }
-        ensures after { state_of offsets free top self.new store.new heap.new bits.new ≡ appended (state_of offsets free top self.old store.old heap.old bits.old) (answer result) (value_slots values.now (integers ends.entry) validity.entry) }
+        ensures answer { answer result ≡ append_answer (state_of S.offsets S.free S.top self.old store.old heap.old bits.old) (values_checks values.now (integers ends.entry) validity.entry) (value_slots values.now (integers ends.entry) validity.entry) }
+        ensures after { state_of S.offsets S.free S.top self.new store.new heap.new bits.new ≡ appended (state_of S.offsets S.free S.top self.old store.old heap.old bits.old) (answer result) (value_slots values.now (integers ends.entry) validity.entry) }
         ensures examples { ValuesExamples }
     {
         check_memory(self, store, heap, bits)?;

@@ -3,6 +3,6 @@ use Rattle.std.proofs.Common.{length, refl, ap, arith}
 use Rattle.ptype.specs.Searches.{first_fall}
 use Rattle.array.proofs.view.VarBinArray.empty.Goals as goal
 
-pub invariant-of-result : goal.invariant-of-result
+pub invariant_of-result : goal.invariant_of-result
 unfolding first_fall
-invariant-of-result c = (omega arith, (refl, (ap length c.new-true.ensures, tt)))
+invariant_of-result c = (omega arith, (refl, (ap length c.new-true.ensures, tt)))

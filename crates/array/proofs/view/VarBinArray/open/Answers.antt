@@ -5,9 +5,9 @@ use Rattle.integers.specs.Slices.{integers}
 use Rattle.array.proofs.Opens.{few, rising, valid}
 use Rattle.array.proofs.view.VarBinArray.open.Goals as goal
 
-pub invariant-of-self : goal.invariant-of-self
-invariant-of-self c =
-    let rows = c.saturating-sub-rows.result in
-    let small = few rows (length c.args.heap.now) c.in-ok-check-limits.ensures in
-    let long = valid c.args.nullable c.args.mask rows (flags c.row-validity-validity.result) c.in-ok-check-validity.ensures c.row-validity-validity.ensures in
+pub invariant_of-self : goal.invariant_of-self
+invariant_of-self c =
+    let rows = c.saturating_sub-rows.result in
+    let small = few rows (length c.args.heap.now) c.in_ok-check_limits.ensures in
+    let long = valid c.args.nullable c.args.mask rows (flags c.row_validity-validity.result) c.in_ok-check_validity.ensures c.row_validity-validity.ensures in
     (omega arith, (rising (integers c.args.offsets) (length c.args.heap.now) c.in-ok-check-layout.ensures, (omega arith, tt)))

@@ -15,16 +15,16 @@ loop-i-preserved g c =
     let i = c.loop-i.i in
     let xs = c.loop-i.self.narrow.now in
     let ys = c.loop-i.self.wide.now in
-    let ws = c.write-entry.new.entries in
+    let ws = c.write_entry.new.entries in
     let x = c.index-self-i.result in
-    let n = c.unwrap-or-offset.result in
+    let n = c.unwrap_or-offset.result in
     let same : length xs ≡ length c.args.self.now.narrow.now = ap length c.loop-i.invariant.1 in
     let low : i < length xs = omega arith in
     let high : i < length ys = omega arith in
-    let is = entry_at narrow xs i x n low (amount_read n c.to-u64.result (narrow (get_or xs i x)) c.unwrap-or-offset.ensures c.to-u64.ensures.value) in (
-      copied_more narrow wide i xs ys ws n low high is c.write-entry.ensures c.loop-i.invariant.0,
+    let is = entry_at narrow xs i x n low (amount_read n c.to_u64.result (narrow (get_or xs i x)) c.unwrap_or-offset.ensures c.to_u64.ensures.value) in (
+      copied_more narrow wide i xs ys ws n low high is c.write_entry.ensures c.loop-i.invariant.0,
       c.loop-i.invariant.1,
-      omega (arith, length_written wide ys ws i (pos n) c.write-entry.ensures),
+      omega (arith, length_written wide ys ws i (pos n) c.write_entry.ensures),
       c.loop-i.invariant.3,
     )
 

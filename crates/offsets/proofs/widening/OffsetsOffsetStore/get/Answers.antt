@@ -8,22 +8,22 @@ returns-then-i-len g c =
     let s = c.args.self.now in
     at_none g.N.IntegerPType.value g.N.Wide.IntegerPType.value s.widened s.used s.narrow.now s.wide.now c.args.i (omega arith)
 
-pub read-entry-requires : goal.read-entry-requires
-read-entry-requires g c =
+pub read_entry-requires : goal.read_entry-requires
+read_entry-requires g c =
     let s = c.args.self.now in
     omega (arith, length_wide g.N.IntegerPType.value g.N.Wide.IntegerPType.value s.widened s.used s.narrow.now s.wide.now c.if-self.true)
 
-pub read-entry-requires-else-self : goal.read-entry-requires-else-self
-read-entry-requires-else-self g c =
+pub read_entry-requires-else-self : goal.read_entry-requires-else-self
+read_entry-requires-else-self g c =
     let s = c.args.self.now in
     omega (arith, length_narrow g.N.IntegerPType.value g.N.Wide.IntegerPType.value s.widened s.used s.narrow.now s.wide.now c.if-self.false)
 
 pub returns-then-self : goal.returns-then-self
 returns-then-self g c =
     let s = c.args.self.now in
-    at_wide g.N.IntegerPType.value g.N.Wide.IntegerPType.value s.widened s.used s.narrow.now s.wide.now c.args.i c.read-entry.result c.if-self.true (omega arith) c.read-entry.ensures.value
+    at_wide g.N.IntegerPType.value g.N.Wide.IntegerPType.value s.widened s.used s.narrow.now s.wide.now c.args.i c.read_entry.result c.if-self.true (omega arith) c.read_entry.ensures.value
 
 pub returns-else-self : goal.returns-else-self
 returns-else-self g c =
     let s = c.args.self.now in
-    at_narrow g.N.IntegerPType.value g.N.Wide.IntegerPType.value s.widened s.used s.narrow.now s.wide.now c.args.i c.read-entry-else-self.result c.if-self.false (omega arith) c.read-entry-else-self.ensures.value
+    at_narrow g.N.IntegerPType.value g.N.Wide.IntegerPType.value s.widened s.used s.narrow.now s.wide.now c.args.i c.read_entry-else-self.result c.if-self.false (omega arith) c.read_entry-else-self.ensures.value
