@@ -32,5 +32,5 @@ returns c =
     let to = entry_read (integers c.args.offsets) (c.args.i + 1) c.unwrap_or-to.result c.get-2.result c.unwrap_or-to.ensures c.get-2.ensures in
     record {
       bytes = λ k. take (to k - from k) (drop (from k) c.args.heap.now);
-      place = λ k. (c.args.heap.ptr.0, (add_comm c.unwrap_or-from.result c.args.heap.ptr.1 ∙ ap (λ n. c.args.heap.ptr.1 + n) from) k);
+      place = λ k. (c.args.heap.ref_ptr.0, (add_comm c.unwrap_or-from.result c.args.heap.ref_ptr.1 ∙ ap (λ n. c.args.heap.ref_ptr.1 + n) from) k);
     }

@@ -5,4 +5,8 @@ use Rattle.array.proofs.view.VarBinArray.empty.Goals as goal
 
 pub invariant_of-result : goal.invariant_of-result
 unfolding first_fall
-invariant_of-result c = (omega arith, (refl, (ap length c.new-true.ensures, tt)))
+invariant_of-result c = record {
+      few = omega arith;
+      rising = refl;
+      valid = ap length c.new_true.ensures;
+    }

@@ -10,4 +10,8 @@ invariant_of-self c =
     let rows = c.saturating_sub-rows.result in
     let small = few rows (length c.args.heap.now) c.in_ok-check_limits.ensures in
     let long = valid c.args.nullable c.args.mask rows (flags c.row_validity-validity.result) c.in_ok-check_validity.ensures c.row_validity-validity.ensures in
-    (omega arith, (rising (integers c.args.offsets) (length c.args.heap.now) c.in-ok-check-layout.ensures, (omega arith, tt)))
+    record {
+      few = omega arith;
+      rising = rising (integers c.args.offsets) (length c.args.heap.now) c.in_ok-check_layout.ensures;
+      valid = omega arith;
+    }
