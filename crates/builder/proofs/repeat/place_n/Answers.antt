@@ -10,7 +10,7 @@ pub place-requires : goal.place-requires
 place-requires g c =
     let s = g.S.OffsetStore in
     let x = slot c.args.valid c.args.value.now in
-    first_room (state_of s.offsets s.free s.top c.loop-i.b c.loop-i.store c.loop-i.heap c.loop-i.bits) x (replicate (c.args.n - (c.loop-i.-i + 1)) x) (subst (Fits (state_of s.offsets s.free s.top c.loop-i.b c.loop-i.store c.loop-i.heap c.loop-i.bits)) (one_of c.args.n c.loop-i.-i x c.loop-i-test.true) c.loop-i.invariant.fits)
+    first_room (state_of s.offsets s.free s.top c.loop-i.b c.loop-i.store c.loop-i.heap c.loop-i.bits) x (replicate (c.args.n - (c.loop-i._i + 1)) x) (subst (Fits (state_of s.offsets s.free s.top c.loop-i.b c.loop-i.store c.loop-i.heap c.loop-i.bits)) (one_of c.args.n c.loop-i._i x c.loop-i-test.true) c.loop-i.invariant.fits)
 
 pub loop-i-init : goal.loop-i-init
 loop-i-init g c = begin_equal _ c.args.n _ c.requires
@@ -19,10 +19,10 @@ pub loop-i-preserved : goal.loop-i-preserved
 loop-i-preserved g c =
     let s = g.S.OffsetStore in
     let x = slot c.args.valid c.args.value.now in
-    more (state_of s.offsets s.free s.top c.args.b.now c.args.store.now c.args.heap.now c.args.bits.now) (replicate c.args.n x) (state_of s.offsets s.free s.top c.loop-i.b c.loop-i.store c.loop-i.heap c.loop-i.bits) x (replicate (c.args.n - (c.loop-i.-i + 1)) x) _ (subst (Filling (state_of s.offsets s.free s.top c.args.b.now c.args.store.now c.args.heap.now c.args.bits.now) (replicate c.args.n x) (state_of s.offsets s.free s.top c.loop-i.b c.loop-i.store c.loop-i.heap c.loop-i.bits)) (one_of c.args.n c.loop-i.-i x c.loop-i-test.true) c.loop-i.invariant) c.place.ensures
+    more (state_of s.offsets s.free s.top c.args.b.now c.args.store.now c.args.heap.now c.args.bits.now) (replicate c.args.n x) (state_of s.offsets s.free s.top c.loop-i.b c.loop-i.store c.loop-i.heap c.loop-i.bits) x (replicate (c.args.n - (c.loop-i._i + 1)) x) _ (subst (Filling (state_of s.offsets s.free s.top c.args.b.now c.args.store.now c.args.heap.now c.args.bits.now) (replicate c.args.n x) (state_of s.offsets s.free s.top c.loop-i.b c.loop-i.store c.loop-i.heap c.loop-i.bits)) (one_of c.args.n c.loop-i._i x c.loop-i-test.true) c.loop-i.invariant) c.place.ensures
 
 pub returns : goal.returns
 returns g c =
     let s = g.S.OffsetStore in
     let x = slot c.args.valid c.args.value.now in
-    ends (state_of s.offsets s.free s.top c.args.b.now c.args.store.now c.args.heap.now c.args.bits.now) (replicate c.args.n x) (state_of s.offsets s.free s.top c.loop-i.b c.loop-i.store c.loop-i.heap c.loop-i.bits) (subst (Filling (state_of s.offsets s.free s.top c.args.b.now c.args.store.now c.args.heap.now c.args.bits.now) (replicate c.args.n x) (state_of s.offsets s.free s.top c.loop-i.b c.loop-i.store c.loop-i.heap c.loop-i.bits)) (none_of c.args.n c.loop-i.-i x c.loop-i-test.false) c.loop-i.invariant)
+    ends (state_of s.offsets s.free s.top c.args.b.now c.args.store.now c.args.heap.now c.args.bits.now) (replicate c.args.n x) (state_of s.offsets s.free s.top c.loop-i.b c.loop-i.store c.loop-i.heap c.loop-i.bits) (subst (Filling (state_of s.offsets s.free s.top c.args.b.now c.args.store.now c.args.heap.now c.args.bits.now) (replicate c.args.n x) (state_of s.offsets s.free s.top c.loop-i.b c.loop-i.store c.loop-i.heap c.loop-i.bits)) (none_of c.args.n c.loop-i._i x c.loop-i-test.false) c.loop-i.invariant)
