@@ -96,7 +96,7 @@ impl VarBinBuilder {
         let VarBinBuilder {
             utf8: _,
             nullable: _,
-            rows,
+            rows: dropped,
             used: _,
             valid: _,
             capacity: _,
@@ -104,6 +104,6 @@ impl VarBinBuilder {
             heap_left: _,
             bits_left: _,
         } = self;
-        rows
+        dropped
     }
 }

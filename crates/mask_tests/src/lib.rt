@@ -1,5 +1,6 @@
 // Tests of masks and of bits in lent bytes. What is expected is written by hand, the lowest bit of a byte first.
 #![tactic(auto)]
+
 ghost use Rattle.std.specs.Prelude.{◌+◌, ◌<◌};
 
 use mask::bits;
@@ -18,6 +19,7 @@ fn first_from(set: &[u64], from: u64) -> Option<u64> {
 }
 
 // Every call of a mask of `len` flags, of which those at the places `set` are set, asked at each place and at two past the end.
+#[cfg(test)]
 fn expect(rt: &impl Abort, mask: Mask, len: u64, covered: bool, set: &[u64]) -> Result<(), Fail>
     requires { len < 1000 }
 {
@@ -32,6 +34,7 @@ fn expect(rt: &impl Abort, mask: Mask, len: u64, covered: bool, set: &[u64]) -> 
 }
 
 // The same of a mask over bytes.
+#[cfg(test)]
 fn expect_bits(
     rt: &impl Abort,
     len: u64,
@@ -65,20 +68,28 @@ fn surplus_bytes(rt: HostRuntime) -> Result<(), Fail> {
     expect_bits(&rt, 9, &[0x00, 0xFF, 0xFF], true, &[8])
 }
 
-#[test]
-fn too_few_bytes(rt: HostRuntime) -> Result<(), Fail> {
-    expect_bits(&rt, 1, &[], false, &[])?;
-    expect_bits(&rt, 9, &[0x82], false, &[1, 7])?;
-    expect_bits(&rt, 64, &[0x00, 0x40], false, &[14])?;
-    let most = Mask::Values {
-        len: u64::MAX,
-        bytes: &[0x10],
-    };
+// A mask of as many flags as there can be, of which the one at 4 is set. Its length is no number here, since the check would count flag by flag.
+#[cfg(test)]
+fn expect_one_of_most(rt: &impl Abort, most: Mask) {
     assert_eq!(rt; most.is_covered(), false);
     assert_eq!(rt; most.true_count(), 1);
     assert_eq!(rt; most.next_set(4), Some(4));
     assert_eq!(rt; most.next_set(5), None);
     assert_eq!(rt; most.value(u64::MAX), false);
+}
+
+#[test]
+fn too_few_bytes(rt: HostRuntime) -> Result<(), Fail> {
+    expect_bits(&rt, 1, &[], false, &[])?;
+    expect_bits(&rt, 9, &[0x82], false, &[1, 7])?;
+    expect_bits(&rt, 64, &[0x00, 0x40], false, &[14])?;
+    expect_one_of_most(
+        &rt,
+        Mask::Values {
+            len: u64::MAX,
+            bytes: &[0x10],
+        },
+    );
     Ok(())
 }
 
@@ -109,6 +120,7 @@ fn all_set_or_unset(rt: HostRuntime) -> Result<(), Fail> {
 const OLD: [bool; 8] = [true, false, true, false, false, true, false, true];
 
 // That of three bytes, each 0xA5 before, the n bits from `from` on are v, and every other bit is as it was.
+#[cfg(test)]
 fn expect_written(rt: &impl Abort, bytes: &[u8], from: u64, n: u64, v: bool) -> Result<(), Fail>
     requires { from + n < 1000 }
 {
@@ -134,6 +146,7 @@ fn put_bit_leaves_others(rt: HostRuntime) -> Result<(), Fail> {
 }
 
 // The n bits from `from` on, set in bytes that are 0 and cleared in bytes that are 0xFF.
+#[cfg(test)]
 fn expect_filled(rt: &impl Abort, from: u64, n: u64, expected: [u8; 3]) -> Result<(), Fail>
     requires { from + n < 1000 }
 {

@@ -1,5 +1,6 @@
 // Tests of the offset stores: which pushes each takes, what it then holds, and when it widens.
 #![tactic(auto)]
+
 use offsets::fixed::FixedOffsets;
 use offsets::store::OffsetStore;
 use offsets::widening::Offsets;
@@ -7,6 +8,7 @@ use std::process::Abort;
 use std::test::Fail;
 
 // Each push is taken or refused as its flag says; then the store holds these offsets and no more, and has so many entries free.
+#[cfg(test)]
 fn expect<S: OffsetStore>(
     rt: &impl Abort,
     store: &mut S,
@@ -70,7 +72,7 @@ fn what_a_fixed_store_hands_out(rt: HostRuntime) -> Result<(), Fail> {
     let Some(held) = store.as_slice() else {
         return Err(Fail::new("none"));
     };
-    assert!(rt; held == &[5, 6]);
+    assert!(rt; held == [5, 6].as_slice());
     Ok(())
 }
 
@@ -276,7 +278,7 @@ fn what_a_narrow_store_hands_out(rt: HostRuntime) -> Result<(), Fail> {
     let Some(held) = store.as_narrow() else {
         return Err(Fail::new("none"));
     };
-    assert!(rt; held == &[0, 4]);
+    assert!(rt; held == [0, 4].as_slice());
     Ok(())
 }
 
@@ -296,6 +298,6 @@ fn what_a_wide_store_hands_out(rt: HostRuntime) -> Result<(), Fail> {
     let Some(held) = store.as_wide() else {
         return Err(Fail::new("none"));
     };
-    assert!(rt; held == &[3, 2_147_483_648]);
+    assert!(rt; held == [3, 2_147_483_648].as_slice());
     Ok(())
 }

@@ -1,15 +1,18 @@
 // Tests of the tiling check: tables of offsets, a heap, and whether the offsets tile it.
 #![tactic(auto)]
+
 use integers::slices::IntegerSlice;
 use std::process::Abort;
 use std::test::Fail;
 use tiling::offsets_tile_utf8;
 
+#[cfg(test)]
 fn expect_of(rt: &impl Abort, offsets: IntegerSlice, heap: &[u8], tiles: bool) -> Result<(), Fail> {
     assert_eq!(rt; offsets_tile_utf8(offsets, heap), tiles);
     Ok(())
 }
 
+#[cfg(test)]
 fn expect(rt: &impl Abort, offsets: &[u8], heap: &[u8], tiles: bool) -> Result<(), Fail> {
     expect_of(rt, IntegerSlice::U8(offsets), heap, tiles)
 }
