@@ -1,12 +1,12 @@
 -- What is read of the offsets of a column that never fall, and of its rows.
-use Rattle.std.proofs.Common.{◌≡◌, ℕ, zero, suc, ◌+◌, ◌-◌, ◌<◌, ◌≤◌, Bool, true, false, cond, List, [], ◌∷◌, map, length, get_or, ℤ, is_some, Some, None, Option, sym, refl, ap, ◌∙◌, subst, arith}
+use Rattle.std.proofs.Common.{◌≡◌, ℕ, ◌+◌, ◌<◌, ◌≤◌, Bool, true, false, cond, List, length, get_or, ℤ, is_some, Some, None, Option, sym, refl, ap, ◌∙◌, arith}
 use Rattle.std.specs.List.{slice_get}
 use Rattle.std.proofs.lemmas.List.FromFn.{length-map-range_with_len, get_or-map-range_with_len}
 use Rattle.std.proofs.lemmas.Option.{slice_get-get_or, slice_get_past}
 use Rattle.ptype.specs.Integers.{amount_at}
 use Rattle.ptype.specs.Searches.{first_fall}
-use Rattle.ptype.proofs.Rising.{Inside, each, ordered}
-use Rattle.slots.specs.Rows.{Row, null, bytes}
+use Rattle.ptype.proofs.Rising.{each, ordered}
+use Rattle.slots.specs.Rows.{null, bytes}
 use Rattle.array.specs.Columns.{row_count, slot_bytes, column_row, column_rows}
 
 pub is_none : {X : Type 0} (o : Option X) → is_some o ≡ false → o ≡ None

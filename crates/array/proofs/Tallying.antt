@@ -1,13 +1,13 @@
 -- The bytes and the longest slot of a column whose offsets never fall.
-use Rattle.std.proofs.Common.{◌≡◌, ℕ, zero, suc, ◌+◌, ◌-◌, ◌<◌, ◌≤◌, max, false, List, [], ◌∷◌, ◌++◌, map, length, ℤ, is_some, sum, sym, refl, ap, ◌∙◌, arith}
+use Rattle.std.proofs.Common.{◌≡◌, ℕ, zero, suc, ◌+◌, ◌≤◌, max, false, List, [], ◌∷◌, ◌++◌, map, ℤ, is_some, sum, sym, ap, ◌∙◌, arith}
 use Rattle.std.specs.List.{range_with_len}
 use Rattle.std.proofs.lemmas.List.FromFn.{map-range_with_len_more}
 use Rattle.std.proofs.lemmas.List.Sums.{sum_by_push}
 use Rattle.ptype.specs.Integers.{amount_at}
 use Rattle.ptype.specs.Searches.{first_fall}
-use Rattle.array.specs.Columns.{row_count, slot_length, slot_lengths}
+use Rattle.array.specs.Columns.{row_count, slot_length}
 use Rattle.array.specs.Tallies.{longest_of}
-use Rattle.array.proofs.Slots.{Bounds, bounds}
+use Rattle.array.proofs.Slots.{bounds}
 
 longest_push : (ns : List ℕ) (n : ℕ) → longest_of (ns ++ n ∷ []) ≡ max (longest_of ns) n
 unfolding longest_of

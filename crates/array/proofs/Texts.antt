@@ -1,5 +1,5 @@
 -- The walk over the rows that judges their text.
-use Rattle.std.proofs.Common.{◌≡◌, ℕ, ◌+◌, ◌-◌, ◌<◌, ◌≤◌, Bool, true, false, cond, List, [], ◌∷◌, map, length, get_or, ℤ, Some, None, Option, sym, refl, ap, ◌∙◌, subst, arith, length-append, length-drop, length-take}
+use Rattle.std.proofs.Common.{◌≡◌, ℕ, ◌+◌, ◌-◌, ◌<◌, ◌≤◌, Bool, true, false, cond, List, ◌∷◌, map, length, get_or, ℤ, Some, None, Option, sym, ap, ◌∙◌, arith, length-append, length-take}
 use Rattle.std.specs.List.{between, range_with_len}
 use Rattle.std.specs.Option.{option_map}
 use Rattle.ptype.specs.Integers.{amount_at}
@@ -7,7 +7,7 @@ use Rattle.refusal.specs.Refusals.{Code, code, first_refusal}
 use Rattle.utf8.specs.Grammar.{FirstBad}
 use Rattle.utf8.specs.Reading.{first_fault}
 use Rattle.array.specs.Columns.{row_count, slot_bytes}
-use Rattle.array.specs.Opening.{row_text, text_check}
+use Rattle.array.specs.Opening.{row_text}
 
 -- a bad character begins before the end of the slot
 pub bad_inside : (xs : List ℕ) (k : ℕ) → FirstBad xs k → k < length xs

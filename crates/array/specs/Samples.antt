@@ -1,11 +1,10 @@
 -- Sample column K, and what opening answers for it.
-use Rattle.std.specs.Prelude.{◌≡◌, ℕ, true, false, List, [], ◌∷◌, map, length, ℤ, pos, None}
+use Rattle.std.specs.Prelude.{◌≡◌, true, false, [], ◌∷◌, pos, None}
 use Rattle.ptype.specs.Integers.{integers_of}
-use Rattle.ptype.specs.Searches.{first_fall}
 use Rattle.mask.specs.Masks.{bit_flags}
 use Rattle.slots.specs.Rows.{null, bytes}
 use Rattle.array.specs.declared.sample.Sample.{Sample}
-use Rattle.array.specs.Columns.{row_count, column_rows}
+use Rattle.array.specs.Columns.{column_rows}
 use Rattle.array.specs.Opening.{layout_check, text_check, open_answer}
 
 -- three rows: 47 37, null over the hidden bytes 58 58, and C2 B5 6D

@@ -1,5 +1,6 @@
 // Columns over lent memory: opening one, its rows, and its tally.
 #![tactic(auto)]
+
 pub mod checks;
 pub mod completeness;
 pub mod opening;

@@ -1,5 +1,6 @@
 // Opening and the tally on small columns: each refusal at its first place, the order of checks, all kinds, every form of mask.
 #![tactic(auto)]
+
 #[cfg(test)]
 mod tests {
     use array::checks::{check_limits, check_validity};

@@ -1,6 +1,6 @@
 -- The checks that every append and selection shares: the memory as it was left, and space for the slots that it names.
 use Rattle.std.specs.Prelude.{ℕ, ◌+◌, ◌<◌, ◌≤◌, Bool, not, ◌&&◌, List, [], ◌∷◌, length, Option, ◌==◌, nat_lt, slice_index}
-use Rattle.refusal.specs.Refusals.{Code, rule, refuse_if, first_refusal}
+use Rattle.refusal.specs.Refusals.{Code, rule, refuse_if}
 use Rattle.builder.specs.States.{State}
 
 -- the store holds rows + 1 offsets, the last is the used byte count, and the rest is as the builder was left

@@ -1,5 +1,5 @@
 -- All that a builder holds together with its memory, and what one slot more makes of it.
-use Rattle.std.specs.Prelude.{ℕ, ◌+◌, ◌-◌, Bool, true, cond, List, [], ◌∷◌, ◌++◌, length, take, drop}
+use Rattle.std.specs.Prelude.{ℕ, ◌+◌, ◌-◌, Bool, cond, List, [], ◌∷◌, ◌++◌, length, take, drop}
 use Rattle.mask.specs.Bits.{put_bit}
 use Rattle.slots.specs.Slots.{Slot}
 use Rattle.builder.specs.declared.builder.VarBinBuilder.{VarBinBuilder}

@@ -1,5 +1,6 @@
 // The builder of columns: making, finishing, and the checks and steps that every append and selection shares.
 #![tactic(auto)]
+
 pub mod builder;
 pub mod finished;
 pub mod making;

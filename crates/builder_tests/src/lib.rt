@@ -1,5 +1,6 @@
 // The builder on small memory: capacity, each refusal of its calls in order, what every byte and bit holds after.
 #![tactic(auto)]
+
 use builder::builder::VarBinBuilder;
 use builder::finished::{Finished, Validity};
 use offsets::store::OffsetStore;

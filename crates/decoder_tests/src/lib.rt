@@ -1,5 +1,6 @@
 // The copy and the hexadecimal decoder: what they write, and each fault.
 #![tactic(auto)]
+
 #[cfg(test)]
 mod tests {
     use decoder::copy::CopyDecoder;

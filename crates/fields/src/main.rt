@@ -1,5 +1,6 @@
 // Reads records from standard input and prints their listing, or the one line of a refusal.
 #![tactic(auto)]
+
 use anyhow::anyhow;
 use listing::listing::list_fields;
 use std::io::Read;

@@ -1,5 +1,6 @@
 // Numbers of the eight kinds at their least and greatest, and the searches over them.
 #![tactic(auto)]
+
 #[cfg(test)]
 mod tests {
     use integers::slices::IntegerSlice;

@@ -1,5 +1,6 @@
 // The listing on short inputs: what it prints, and the line of each refusal.
 #![tactic(auto)]
+
 #[cfg(test)]
 mod tests {
     use listing::listing::list_fields;

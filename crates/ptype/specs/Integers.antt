@@ -1,5 +1,5 @@
 -- Integers as natural numbers.
-use Rattle.std.specs.Prelude.{ℕ, zero, suc, Bool, true, false, ◌&&◌, List, [], ◌∷◌, map, ℤ, pos, negsuc, Some, None, Option, slice_index_or}
+use Rattle.std.specs.Prelude.{ℕ, zero, suc, List, [], ◌∷◌, map, ℤ, pos, negsuc, Some, None, Option, slice_index_or}
 
 -- the number itself, or none where it is negative
 abbrev pub natural : ℤ → Option ℕ

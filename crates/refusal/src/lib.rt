@@ -1,5 +1,6 @@
 // The refusals: why a call was turned down, with the place where a rule names one.
 #![tactic(auto)]
+
 ghost use Rattle.std.specs.Prelude.{◌≡◌};
 ghost use Rattle.refusal.specs.Refusals.{code_of};
 

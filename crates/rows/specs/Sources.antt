@@ -1,5 +1,5 @@
 -- What a row that is handed out shows, and what a join of sources means.
-use Rattle.std.specs.Prelude.{◌≡◌, ℕ, List, ◌++◌, take, Some, None, Option}
+use Rattle.std.specs.Prelude.{◌≡◌, List, ◌++◌, take, Some, None, Option}
 use Rattle.slots.specs.Rows.{Row, null, bytes}
 use Rattle.rows.specs.declared.row.RowRef.{RowRef}
 use Rattle.rows.specs.declared.row.RowRef.TheVariants.{Absent, Null, Bytes}

@@ -1,5 +1,6 @@
 // Repeated rows and joins, row by row, and the cut at the most that a source shows.
 #![tactic(auto)]
+
 #[cfg(test)]
 mod tests {
     use rows::join::Join;

@@ -1,5 +1,5 @@
 -- What the steps of the check tell of tiling: a yes or a no where each of them ends.
-use Rattle.std.proofs.Common.{◌≡◌, ℕ, zero, suc, ◌+◌, ◌-◌, ◌<◌, ◌≤◌, Bool, true, false, List, [], ◌∷◌, length, ℤ, pos, negsuc, is_some, Some, None, Decides, Option, unwrap_or, sym, refl, ap, ◌∙◌, subst, arith, below_more}
+use Rattle.std.proofs.Common.{◌≡◌, ℕ, ◌+◌, ◌-◌, ◌<◌, ◌≤◌, Bool, true, false, List, [], ◌∷◌, length, ℤ, is_some, Some, None, Decides, Option, unwrap_or, sym, refl, ap, ◌∙◌, subst, arith, below_more}
 use Rattle.std.specs.List.{between}
 use Rattle.std.proofs.lemmas.Bool.{false≢true}
 use Rattle.std.proofs.lemmas.Bool.Decides.{not_from_Decides}

@@ -4,6 +4,7 @@
 //
 // The tiling check: whether offsets cut a heap into strings of UTF-8, in one pass over the bytes.
 #![tactic(auto)]
+
 ghost use Rattle.std.specs.Prelude.{◌≡◌, ℕ, ◌<◌, ◌≤◌, length, Decides};
 ghost use Rattle.ptype.specs.Integers.{amount_at};
 ghost use Rattle.integers.specs.Slices.{integers};

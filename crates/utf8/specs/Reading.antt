@@ -1,5 +1,5 @@
 -- The reader as an abstract machine: what it awaits, and where the character that it reads began.
-use Rattle.std.specs.Prelude.{ℕ, zero, suc, ◌+◌, ◌-◌, Bool, cond, ◌&&◌, List, [], ◌∷◌, Some, None, Ok, Err, Option, Result, nat_le}
+use Rattle.std.specs.Prelude.{ℕ, zero, suc, ◌+◌, ◌-◌, cond, ◌&&◌, List, [], ◌∷◌, Some, None, Ok, Err, Option, Result, nat_le}
 use Rattle.utf8.specs.declared.lead.Lead.{Lead}
 use Rattle.utf8.specs.declared.reader.State.{State}
 use Rattle.utf8.specs.declared.reader.State.TheVariants.{Start, Need, Wrong}

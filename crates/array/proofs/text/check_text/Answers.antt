@@ -1,5 +1,5 @@
 -- Each row goes on with the walk, or is refused.
-use Rattle.std.proofs.Common.{◌≡◌, ◌+◌, ◌-◌, ◌<◌, ◌≤◌, length, sym, ap, ◌∙◌, arith}
+use Rattle.std.proofs.Common.{◌+◌, length, ap, arith}
 use Rattle.mask.specs.Masks.{flags}
 use Rattle.ptype.specs.Integers.{amount_at}
 use Rattle.integers.specs.Slices.{integers}

@@ -1,6 +1,5 @@
 -- The two offsets are in order and within the heap.
-use Rattle.std.proofs.Common.{◌≡◌, ◌+◌, ◌-◌, length, take, drop, sym, ap, ◌∙◌, add_comm, arith, rules}
-use Rattle.ptype.specs.Integers.{amount_at}
+use Rattle.std.proofs.Common.{◌+◌, ◌-◌, length, take, drop, ap, ◌∙◌, add_comm, arith}
 use Rattle.integers.specs.Slices.{integers}
 use Rattle.ptype.proofs.Naturals.{entry_read}
 use Rattle.array.proofs.Slots.{bounds}

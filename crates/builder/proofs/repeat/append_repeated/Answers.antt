@@ -2,7 +2,7 @@
 use Rattle.std.proofs.Common.{◌≡◌, ◌≤◌, cond, length, None, sym, refl, ap, ◌∙◌, arith}
 use Rattle.slots.specs.Slots.{slot}
 use Rattle.builder.specs.Space.{memory_check}
-use Rattle.builder.specs.States.{State, state_of}
+use Rattle.builder.specs.States.{state_of}
 use Rattle.builder.proofs.Spaces.{own, equal_fits, equal_answer}
 use Rattle.builder.proofs.repeat.append_repeated.Goals as goal
 use Rattle.builder.proofs.repeat.append_repeated.Goals.{then-valid, else-valid}

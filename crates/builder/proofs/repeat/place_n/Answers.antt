@@ -1,6 +1,6 @@
 -- Each slot has room, and the others fit behind it.
-use Rattle.std.proofs.Common.{◌≡◌, ◌+◌, ◌-◌, replicate, sym, ap, ◌∙◌, subst}
-use Rattle.slots.specs.Slots.{Slot, slot}
+use Rattle.std.proofs.Common.{◌+◌, ◌-◌, replicate, subst}
+use Rattle.slots.specs.Slots.{slot}
 use Rattle.builder.specs.Calls.{Fits}
 use Rattle.builder.specs.States.{state_of}
 use Rattle.builder.proofs.Filling.{Filling, first_room, begin_equal, more, ends, one_of, none_of}

@@ -1,5 +1,5 @@
 -- The figures that the builder was left with.
-use Rattle.std.proofs.Common.{◌≡◌, ◌+◌, length, get_or, sym, ◌∙◌}
+use Rattle.std.proofs.Common.{◌+◌, length, get_or, sym, ◌∙◌}
 use Rattle.refusal.specs.Refusals.{rule}
 use Rattle.builder.proofs.Memory.{read_or, agree, second_differs}
 use Rattle.builder.proofs.space.check_memory.Goals as goal

@@ -1,10 +1,9 @@
 -- One slot more.
-use Rattle.std.proofs.Common.{◌≡◌, ◌+◌, ◌-◌, max, refl, arith}
+use Rattle.std.proofs.Common.{◌≡◌, ◌+◌, max, refl, arith}
 use Rattle.integers.specs.Slices.{integers}
-use Rattle.array.specs.Columns.{slot_length}
 use Rattle.array.specs.Tallies.{longest_of}
 use Rattle.ptype.proofs.Naturals.{entry_read}
-use Rattle.array.proofs.Tallying.{longest_more, front}
+use Rattle.array.proofs.Tallying.{longest_more}
 use Rattle.array.proofs.view.VarBinArray.longest.Goals as goal
 
 pub loop-i-init : goal.loop-i-init

@@ -1,5 +1,5 @@
 -- What the checks let pass is a column.
-use Rattle.std.proofs.Common.{◌≡◌, ◌≤◌, length, arith}
+use Rattle.std.proofs.Common.{length, arith}
 use Rattle.mask.specs.Masks.{flags}
 use Rattle.integers.specs.Slices.{integers}
 use Rattle.array.proofs.Opens.{few, rising, valid}

@@ -1,7 +1,7 @@
 -- The five figures.
-use Rattle.std.proofs.Common.{◌≡◌, ◌+◌, ◌-◌, ◌≤◌, length, sum, sym, ap, ◌∙◌, arith}
+use Rattle.std.proofs.Common.{◌≡◌, length, sum, ap, ◌∙◌, arith}
 use Rattle.std.proofs.lemmas.List.FromFn.{length-map-range_with_len}
-use Rattle.mask.specs.Masks.{flags, set_count}
+use Rattle.mask.specs.Masks.{flags}
 use Rattle.mask.proofs.Flags.{count_le}
 use Rattle.integers.specs.Slices.{integers}
 use Rattle.array.specs.Columns.{row_count, slot_length, slot_lengths}

@@ -1,6 +1,5 @@
 -- An accepted builder and its memory, figure by figure.
-use Rattle.std.proofs.Common.{◌≡◌, ◌+◌, ◌-◌, ◌*◌, min, length, sym, refl, ap, ◌∙◌, arith}
-use Rattle.builder.specs.States.{State}
+use Rattle.std.proofs.Common.{◌≡◌, ◌-◌, min, length, sym, ap, ◌∙◌, arith}
 use Rattle.builder.proofs.Memory.{had_entry, makes, first_offset, capacity}
 use Rattle.builder.proofs.builder.VarBinBuilder.new.Goals as goal
 

@@ -1,5 +1,5 @@
 -- Each pair goes on with the walk or is a fault.
-use Rattle.std.proofs.Common.{◌≡◌, ℕ, ◌+◌, ◌*◌, ◌/◌, ◌<◌, ◌≤◌, List, length, sym, refl, ap, ◌∙◌, arith}
+use Rattle.std.proofs.Common.{◌≡◌, ◌*◌, ◌/◌, ◌≤◌, length, sym, refl, ap, arith}
 use Rattle.decoder.specs.Decoding.{decode_answer}
 use Rattle.decoder.specs.Hexadecimal.{hex_bytes}
 use Rattle.decoder.proofs.Pairs.{start, odd_refused, short_refused, bad_high, bad_low, good, done, answered, begins, begins_none}

@@ -1,5 +1,5 @@
 -- Each entry goes on with the search, is passed over, or is its answer.
-use Rattle.std.proofs.Common.{get_or, sym, ◌∙◌}
+use Rattle.std.proofs.Common.{get_or, ◌∙◌}
 use Rattle.mask.specs.Masks.{flags}
 use Rattle.ptype.proofs.Naturals.{below, not_below, negative_below}
 use Rattle.ptype.proofs.Steps.{not_below_more, not_below_stop, not_below_skip, not_below_all}

@@ -1,5 +1,5 @@
 -- The sum so far goes on, or what is summed no longer fits.
-use Rattle.std.proofs.Common.{◌≡◌, ◌+◌, ◌^◌, ◌≤◌, get_or, arith}
+use Rattle.std.proofs.Common.{◌≡◌, get_or, arith}
 use Rattle.ptype.specs.Integers.{amount}
 use Rattle.ptype.proofs.Naturals.{amount_read}
 use Rattle.ptype.proofs.Steps.{total_more, total_all, fits, fits_not}
