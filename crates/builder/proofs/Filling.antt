@@ -1,19 +1,25 @@
 -- Placing slots that fit, one after the other.
-use Rattle.std.proofs.Common.{◌≡◌, ℕ, suc, ◌+◌, ◌-◌, ◌<◌, ◌≤◌, List, [], ◌∷◌, length, replicate, sym, refl, ap, ◌∙◌, subst, arith, length-append, length-drop, length-take}
+use Rattle.std.proofs.Common.{◌≡◌, ℕ, suc, ◌+◌, ◌-◌, ◌<◌, ◌≤◌, Bool, List, [], ◌∷◌, length, replicate, sym, refl, ap, ◌∙◌, subst, arith, length-append, length-drop, length-take}
 use Rattle.slots.specs.Slots.{Slot, byte_count}
-use Rattle.builder.specs.Calls.{Fits}
-use Rattle.builder.specs.Space.{Room}
-use Rattle.builder.specs.States.{State, put_bytes, add_slot, add_slots}
+use Rattle.builder.specs.Calls.{RowsFit, Fits}
+use Rattle.builder.specs.Space.{Room, RowRoom}
+use Rattle.builder.specs.States.{State, put_bytes, with_heap, add_row, add_slot, add_slots}
 
 length_put : (heap : List ℕ) (at : ℕ) (bs : List ℕ) → at + length bs ≤ length heap → length (put_bytes heap at bs) ≡ length heap
 length_put heap at bs h = simp (length-append, length-take, length-drop) (omega arith)
 
 -- the first of the slots has room
+pub first_row : (m : State) (count size n : ℕ) → n ≤ size → RowsFit m (suc count) size → RowRoom (with_heap m []) n
+first_row m count size n le f = record { entry = omega (arith, f.entries); row = omega (arith, f.rows); left = omega (arith, f.left); below = omega (arith, f.below) }
+
 pub first_room : (m : State) (s : Slot) (ss : List Slot) → Fits m (s ∷ ss) → Room m (length s.content)
 unfolding byte_count
 first_room m s ss f = record { entry = omega (arith, f.entries); row = omega (arith, f.rows); fits = omega (arith, f.heap); left = omega (arith, f.left); below = omega (arith, f.below) }
 
 -- and the others fit behind it
+pub rest_rows : (m : State) (count size n : ℕ) (valid : Bool) → RowsFit m (suc count) (n + size) → RowsFit (add_row m valid n) count size
+rest_rows m count size n valid f = record { entries = omega (arith, f.entries); rows = omega (arith, f.rows); left = omega (arith, f.left); below = omega (arith, f.below) }
+
 rest_fits : (m : State) (s : Slot) (ss : List Slot) → Fits m (s ∷ ss) → Fits (add_slot m s) ss
 unfolding byte_count
 rest_fits m s ss f =

@@ -30,3 +30,10 @@ pub record Fits (m : State) (ss : List Slot) : Type 0 where
   pub heap : m.used + byte_count ss ≤ length m.heap
   pub left : m.used + byte_count ss ≤ m.heap_left
   pub below : m.used + byte_count ss ≤ m.top
+
+-- so many rows with so many bytes fit, wherever the bytes stand
+pub record RowsFit (m : State) (count size : ℕ) : Type 0 where
+  pub entries : count ≤ m.free
+  pub rows : m.rows + count ≤ m.capacity
+  pub left : m.used + size ≤ m.heap_left
+  pub below : m.used + size ≤ m.top

@@ -31,3 +31,10 @@ pub record Room (m : State) (n : ℕ) : Type 0 where
   pub fits : m.used + n ≤ length m.heap
   pub left : m.used + n ≤ m.heap_left
   pub below : m.used + n ≤ m.top
+
+-- there is space for one row of n bytes, wherever the bytes stand
+pub record RowRoom (m : State) (n : ℕ) : Type 0 where
+  pub entry : 0 < m.free
+  pub row : m.rows < m.capacity
+  pub left : m.used + n ≤ m.heap_left
+  pub below : m.used + n ≤ m.top

@@ -44,6 +44,42 @@ state_of offsets free top b s heap bits = record {
 abbrev pub put_bytes : List ℕ → ℕ → List ℕ → List ℕ
 put_bytes heap at bs = take at heap ++ (bs ++ drop (at + length bs) heap)
 
+-- the same with another heap
+abbrev pub with_heap : State → List ℕ → State
+with_heap m heap = record {
+  offsets = m.offsets;
+  free = m.free;
+  top = m.top;
+  heap = heap;
+  bits = m.bits;
+  nullable = m.nullable;
+  rows = m.rows;
+  used = m.used;
+  valid = m.valid;
+  capacity = m.capacity;
+  free_left = m.free_left;
+  heap_left = m.heap_left;
+  bits_left = m.bits_left;
+}
+
+-- one row more of so many bytes, which stand behind the used ones: its end in the store, its bit
+abbrev pub add_row : State → Bool → ℕ → State
+add_row m valid size = record {
+  offsets = m.offsets ++ (m.used + size) ∷ [];
+  free = m.free - 1;
+  top = m.top;
+  heap = m.heap;
+  bits = put_bit m.bits m.rows valid;
+  nullable = m.nullable;
+  rows = m.rows + 1;
+  used = m.used + size;
+  valid = m.valid + cond valid 1 0;
+  capacity = m.capacity;
+  free_left = m.free_left - 1;
+  heap_left = m.heap_left;
+  bits_left = m.bits_left;
+}
+
 -- one slot more: its end in the store, its bytes behind the used ones, its bit
 abbrev pub add_slot : State → Slot → State
 add_slot m s = record {
@@ -65,3 +101,9 @@ add_slot m s = record {
 unfoldable pub add_slots : State → List Slot → State
 add_slots m [] = m
 add_slots m (s ∷ ss) = add_slots (add_slot m s) ss
+
+-- rows whose bytes stand behind the used ones already, by their flags and sizes
+unfoldable pub add_rows : State → List Bool → List ℕ → State
+add_rows m [] sizes = m
+add_rows m (f ∷ fs) [] = m
+add_rows m (f ∷ fs) (n ∷ ns) = add_rows (add_row m f n) fs ns

@@ -2,8 +2,11 @@
 #![tactic(auto)]
 
 pub mod builder;
+pub mod decoded;
 pub mod finished;
 pub mod making;
 pub mod place;
 pub mod repeat;
 pub mod space;
+pub mod survey;
+pub mod values;

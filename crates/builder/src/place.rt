@@ -1,8 +1,8 @@
 // Inner: placing one slot that is known to fit.
-ghost use Rattle.std.specs.Prelude.{◌≡◌, ◌+◌, ◌≤◌, length};
+ghost use Rattle.std.specs.Prelude.{◌≡◌, ℕ, ◌+◌, ◌≤◌, List, [], length};
 ghost use Rattle.slots.specs.Slots.{slot};
-ghost use Rattle.builder.specs.Space.{Room};
-ghost use Rattle.builder.specs.States.{state_of, put_bytes, add_slot};
+ghost use Rattle.builder.specs.Space.{Room, RowRoom};
+ghost use Rattle.builder.specs.States.{state_of, put_bytes, add_row, add_slot};
 
 use crate::builder::VarBinBuilder;
 use mask::bits::put_bit;
@@ -18,7 +18,28 @@ pub fn put_bytes(heap: &mut [u8], at: u64, value: &[u8])
     heap[at..end].copy_from_slice(value);
 }
 
-// One slot more: its end, its bytes, its bit.
+// One row more of `size` bytes, which stand behind the used ones: its end and its bit. No heap is looked at, so the promise is for each.
+pub fn place_row<S: OffsetStore>(
+    b: &mut VarBinBuilder,
+    store: &mut S,
+    bits: &mut [u8],
+    valid: bool,
+    size: u64,
+)
+    requires { RowRoom (state_of S.offsets S.free S.top b.old store.old [] bits.old) size }
+    ensures { (heap : List ℕ) → state_of S.offsets S.free S.top b.new store.new heap bits.new ≡ add_row (state_of S.offsets S.free S.top b.old store.old heap bits.old) valid size }
+{
+    let rows = b.rows;
+    let end = b.used + size;
+    let _ = store.push(end);
+    put_bit(bits, rows, valid);
+    b.used = end;
+    b.rows = rows + 1;
+    b.valid += valid as u64;
+    b.free_left -= 1;
+}
+
+// One slot more: its bytes, then its row.
 pub fn place<S: OffsetStore>(
     b: &mut VarBinBuilder,
     store: &mut S,
@@ -30,14 +51,6 @@ pub fn place<S: OffsetStore>(
     requires { Room (state_of S.offsets S.free S.top b.old store.old heap.old bits.old) (length value.now) }
     ensures { state_of S.offsets S.free S.top b.new store.new heap.new bits.new ≡ add_slot (state_of S.offsets S.free S.top b.old store.old heap.old bits.old) (slot valid value.now) }
 {
-    let used = b.used;
-    let rows = b.rows;
-    let end = used + value.len() as u64;
-    let _ = store.push(end);
-    put_bytes(heap, used, value);
-    put_bit(bits, rows, valid);
-    b.used = end;
-    b.rows = rows + 1;
-    b.valid += valid as u64;
-    b.free_left -= 1;
+    put_bytes(heap, b.used, value);
+    place_row(b, store, bits, valid, value.len() as u64);
 }

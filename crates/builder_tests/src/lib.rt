@@ -1,6 +1,11 @@
 // The builder on small memory: capacity, each refusal of its calls in order, what every byte and bit holds after.
 #![tactic(auto)]
 
+#[cfg(test)]
+mod decoded;
+#[cfg(test)]
+mod values;
+
 use builder::builder::VarBinBuilder;
 use builder::finished::{Finished, Validity};
 use offsets::store::OffsetStore;
@@ -19,6 +24,15 @@ fn one_value<S: OffsetStore>(
     match appended {
         Ok(()) => Ok(finished),
         Err(refusal) => Err(refusal),
+    }
+}
+
+// The number and the entry of an answer, both 0 where the call was accepted.
+#[cfg(test)]
+fn told(r: Result<(), Refusal>) -> (u8, u64) {
+    match r {
+        Ok(()) => (0, 0),
+        Err(e) => (e.number(), e.entry()),
     }
 }
 
