@@ -45,12 +45,12 @@ text_check offsets heap valid = first_refusal (map (row_text offsets heap valid)
 
 -- the answer of opening: the first check that refuses; text is judged only where the column is text
 abbrev pub open_answer : Bool → Bool → List ℤ → List ℕ → Option Mask → Option Code
-open_answer nullable isText offsets heap mask =
+open_answer nullable is_text offsets heap mask =
     first_refusal (
     limits_check (row_count offsets) (length heap)
     ∷ some_check (length offsets)
     ∷ validity_check nullable mask (row_count offsets)
     ∷ layout_check offsets (length heap)
-    ∷ cond isText (text_check offsets heap (row_flags mask (row_count offsets))) None
+    ∷ cond is_text (text_check offsets heap (row_flags mask (row_count offsets))) None
     ∷ []
     )

@@ -19,9 +19,9 @@ Placed Null memory a b = Unit {0}
 Placed (Bytes part) memory a b = (part.ref_ptr ≡ (memory.ref_ptr.0, memory.ref_ptr.1 + a)) × (part.now ≡ between a b memory.now)
 
 -- the view over these parts
-pub record Opened (view : VarBinArray) (offsets : IntegerSlice) (heap : Bor (List ℕ)) (mask : Option Mask) (nullable isText : Bool) : Type 0 where
+pub record Opened (view : VarBinArray) (offsets : IntegerSlice) (heap : Bor (List ℕ)) (mask : Option Mask) (nullable is_text : Bool) : Type 0 where
   pub offsets_are : view.offsets ≡ offsets
   pub heap_is : view.heap ≡ heap
   pub valid_are : flags view.validity ≡ row_flags mask (row_count (integers offsets))
   pub nullable_is : view.nullable ≡ nullable
-  pub text_is : view.utf8 ≡ isText
+  pub text_is : view.utf8 ≡ is_text

@@ -35,11 +35,11 @@ pub record Follows (g : Made) (ss : List Slot) (w : ℕ) (m : State) : Type 0 wh
   pub used : m.used ≡ byte_count ss
   pub valid : m.valid ≡ set_count (flags_of ss)
   pub free : m.free + length ss ≡ g.entries - 1
-  pub free_left_lem : m.free_left ≡ m.free
+  pub free_left : m.free_left ≡ m.free
   pub top : m.top ≡ g.top
   pub nullable : m.nullable ≡ g.nullable
   pub capacity : m.capacity ≡ capacity_of g.entries (length g.bits)
-  pub heap_left_lem : m.heap_left ≡ length g.heap
+  pub heap_left : m.heap_left ≡ length g.heap
   pub bits_left : m.bits_left ≡ length g.bits
   pub rows_fit : length ss ≤ capacity_of g.entries (length g.bits)
   pub bytes_fit : byte_count ss ≤ length g.heap
@@ -79,8 +79,8 @@ pub own_figures : (g : Made) (ss : List Slot) (w : ℕ) (m : State) → Follows 
 own_figures g ss w m f =
     let a : length m.offsets ≡ m.rows + 1 = omega (arith, ap length f.offsets, ends_long 0 ss, f.rows) in
     let b : get_or m.offsets m.rows 0 ≡ m.used = (λ t. get_or (f.offsets t) (f.rows t) 0) ∙ last_offset 0 ss ∙ omega (arith, f.used) in
-    let c = sym f.free_left_lem in
-    let d = heap_long g ss w m f ∙ sym f.heap_left_lem in
+    let c = sym f.free_left in
+    let d = heap_long g ss w m f ∙ sym f.heap_left in
     let e = bits_long g ss w m f ∙ sym f.bits_left in
     λ t. eq-eqb (length m.offsets) (m.rows + 1) a t && (eq-eqb (get_or m.offsets m.rows 0) m.used b t && (eq-eqb m.free m.free_left c t && (eq-eqb (length m.heap) m.heap_left d t && eq-eqb (length m.bits) m.bits_left e t)))
 
@@ -124,11 +124,11 @@ adds g ss w m ts f fit none = subst (Follows g (ss ++ ts) w) (sym (adds_grown m 
           used = ap (λ k. k + byte_count ts) f.used ∙ sym u;
           valid = ap (λ k. k + set_count (flags_of ts)) f.valid ∙ sym (ap set_count (map-append valid_of ss ts) ∙ count_append (flags_of ss) (flags_of ts));
           free = omega (arith, f.free, fit.entries);
-          free_left_lem = ap (λ k. k - length ts) f.free_left_lem;
+          free_left = ap (λ k. k - length ts) f.free_left;
           top = f.top;
           nullable = f.nullable;
           capacity = f.capacity;
-          heap_left_lem = f.heap_left_lem;
+          heap_left = f.heap_left;
           bits_left = f.bits_left;
           rows_fit = omega (arith, fit.rows, f.rows, f.capacity);
           bytes_fit = omega (arith, fit.heap, heap_long g ss w m f, f.used);
@@ -152,19 +152,19 @@ accepted g = by (ltb 68719476736 (length g.heap)) refl (eqb g.entries 0) refl g.
 
 pub fresh : (g : Made) → Follows g [] 0 (made_state g)
 unfolding byte_count ends_from put_bits null_count
-fresh g = record { offsets = refl; heap = refl; bits = refl; rows = refl; used = refl; valid = refl; free = omega arith; free_left_lem = refl; top = refl; nullable = refl; capacity = refl; heap_left_lem = refl; bits_left = refl; rows_fit = omega arith; bytes_fit = omega arith; wiped_fit = omega arith; no_nulls = λ e. refl }
+fresh g = record { offsets = refl; heap = refl; bits = refl; rows = refl; used = refl; valid = refl; free = omega arith; free_left = refl; top = refl; nullable = refl; capacity = refl; heap_left = refl; bits_left = refl; rows_fit = omega arith; bytes_fit = omega arith; wiped_fit = omega arith; no_nulls = λ e. refl }
 
 module _ (g : Made) (ss : List Slot) (w : ℕ) (m : State) (f : Follows g ss w m) where
   abbrev book : Book
   book = record { slots = ss }
 
   limits : Limits m
-  limits = record { few = omega (arith, f.heap_left_lem, (accepted g).few); small = omega (arith, f.capacity); entries = omega (arith, f.capacity, f.free, f.free_left_lem, f.rows) }
+  limits = record { few = omega (arith, f.heap_left, (accepted g).few); small = omega (arith, f.capacity); entries = omega (arith, f.capacity, f.free, f.free_left, f.rows) }
 
   -- ---- the answers agree
 
-  spaces : (rows nullRows size asked : ℕ) → space_checks m.nullable m.capacity m.rows m.used (length m.heap) m.top rows nullRows size asked ≡ book_space (making_of g) book rows nullRows size asked
-  spaces rows nullRows size asked = λ t. space_checks (f.nullable t) (f.capacity t) (f.rows t) (f.used t) (heap_long g ss w m f t) (f.top t) rows nullRows size asked
+  spaces : (rows null_rows size asked : ℕ) → space_checks m.nullable m.capacity m.rows m.used (length m.heap) m.top rows null_rows size asked ≡ book_space (making_of g) book rows null_rows size asked
+  spaces rows null_rows size asked = λ t. space_checks (f.nullable t) (f.capacity t) (f.rows t) (f.used t) (heap_long g ss w m f t) (f.top t) rows null_rows size asked
 
   append_answer_lem : (checks : List (Option Code)) (ts : List Slot) → append_answer m checks ts ≡ first_refusal (checks ++ book_space_for (making_of g) book ts)
   append_answer_lem checks ts =
@@ -218,11 +218,11 @@ module _ (g : Made) (ss : List Slot) (w : ℕ) (m : State) (f : Follows g ss w m
         used = f.used;
         valid = f.valid;
         free = f.free;
-        free_left_lem = f.free_left_lem;
+        free_left = f.free_left;
         top = f.top;
         nullable = f.nullable;
         capacity = f.capacity;
-        heap_left_lem = f.heap_left_lem;
+        heap_left = f.heap_left;
         bits_left = f.bits_left;
         rows_fit = f.rows_fit;
         bytes_fit = f.bytes_fit;

@@ -202,8 +202,8 @@ module _ (nullable : Bool) (ss : List Slot) (mask : Option Mask) (fit : Fitting 
   pub flags_of_rows : row_flags mask (row_count column_offsets) ≡ flags_of ss
   flags_of_rows = ap (row_flags mask) (row_count_lem ss) ∙ fit.flags_are
 
-  opens_by : (isText : Bool) (o : Option Code) → cond isText (text_check column_offsets (heap_of ss) (row_flags mask (row_count column_offsets))) None ≡ o → open_answer nullable isText column_offsets (heap_of ss) mask ≡ o
-  opens_by isText o e = (λ t. first_refusal (within_limits t ∷ some_offsets t ∷ valid_mask t ∷ in_order t ∷ e t ∷ [])) ∙ only o
+  opens_by : (is_text : Bool) (o : Option Code) → cond is_text (text_check column_offsets (heap_of ss) (row_flags mask (row_count column_offsets))) None ≡ o → open_answer nullable is_text column_offsets (heap_of ss) mask ≡ o
+  opens_by is_text o e = (λ t. first_refusal (within_limits t ∷ some_offsets t ∷ valid_mask t ∷ in_order t ∷ e t ∷ [])) ∙ only o
 
   pub opens_as_bytes : open_answer nullable false column_offsets (heap_of ss) mask ≡ None
   opens_as_bytes = opens_by false None refl

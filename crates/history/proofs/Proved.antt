@@ -28,7 +28,7 @@ module _ (g : Made) (es : List Entry) where
       λ t. Tiles (numbers_are g slots w (state_after (made_state g) es) f slice e t) (heap_is g slots w (state_after (made_state g) es) f t)
 
   bounded : Bounds (state_after (made_state g) es)
-  bounded = let f = follows g es in record { entries = omega (arith, f.capacity, f.free, f.free_left_lem, f.rows); bits = omega (arith, f.capacity, f.bits_left) }
+  bounded = let f = follows g es in record { entries = omega (arith, f.capacity, f.free, f.free_left, f.rows); bits = omega (arith, f.capacity, f.bits_left) }
 
 pub histories_follow : HistoriesFollow
 histories_follow = record {

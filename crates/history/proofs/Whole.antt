@@ -29,8 +29,8 @@ module _ (g : Made) (ss : List Slot) (w : ℕ) (m : State) (f : Follows g ss w m
 
   figures : figures_left m ≡ book_figures (making_of g) account
   figures =
-      let free : m.free_left ≡ g.entries - 1 - length ss = omega (arith, f.free, f.free_left_lem) in
-      λ t. record { offset_count = f.rows t + 1; last_offset = f.used t; free_entries = free t; heap_bytes = f.heap_left_lem t; bit_count = f.bits_left t }
+      let free : m.free_left ≡ g.entries - 1 - length ss = omega (arith, f.free, f.free_left) in
+      λ t. record { offset_count = f.rows t + 1; last_offset = f.used t; free_entries = free t; heap_bytes = f.heap_left t; bit_count = f.bits_left t }
 
   entry_answer_lem : (e : Entry) → entry_answer m e ≡ book_entry_answer (making_of g) account e
   entry_answer_lem (own r) = request_answer_lem g ss w m f r

@@ -28,8 +28,8 @@ empty_book = record { slots = [] }
 
 -- space behind the slots so far: rows, nulls among them, bytes, heap bytes asked for
 abbrev pub book_space : Making → Book → ℕ → ℕ → ℕ → ℕ → List (Option Code)
-book_space g b rows nullRows size asked =
-    space_checks g.nullable (capacity_of g.entries g.bit_bytes) (length b.slots) (byte_count b.slots) g.heap_length g.top rows nullRows size asked
+book_space g b rows null_rows size asked =
+    space_checks g.nullable (capacity_of g.entries g.bit_bytes) (length b.slots) (byte_count b.slots) g.heap_length g.top rows null_rows size asked
 
 abbrev pub book_space_for : Making → Book → List Slot → List (Option Code)
 book_space_for g b ss = book_space g b (length ss) (null_count ss) (byte_count ss) (byte_count ss)
