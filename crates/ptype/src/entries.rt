@@ -26,7 +26,7 @@ impl<'a, T: IntegerPType> Entries<'a, T> {
         if i < self.values.len() as u64 {
             self.values[i as usize].to_u64()
         } else {
-            None
+            None // past the end
         }
     }
 
