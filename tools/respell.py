@@ -1,10 +1,13 @@
 #!/usr/bin/env python3
 """Spells the repository's own definitions and lemmas as today's Rattle does.
 
-Run once, at the top, after the kit's port.py: `python3 tools/respell.py`.
-Words of specs/ and proofs/ go from camelCase and dash-names to snake_case, facts (capital first) from
-Fixed-examples to FixedExamples. Names that Rattle makes (goals, steps, invariants) and the names of RFC 3629's
-grammar (UTF8-1 ..) stay, as do functions, types and everything else of src/.
+Run once, at the top, after the kit's port.py: `python3 tools/respell.py`. With `--list` it prints what it would
+rename, old and new, and changes nothing.
+What specs/ and proofs/ define goes from camelCase and dash-names to snake_case, and facts (capital first) from
+Fixed-examples to FixedExamples; a prime becomes an apostrophe. It renames wherever such a word stands as a whole:
+in specs/, in proofs/, and in src/, where the clauses cite it. Names of functions and types stay, as do the names of
+RFC 3629's grammar (UTF8-1 ..) and what only a function's own proof files define in the form of a goal's name.
+It goes by text: a step of a function that is spelled as a renamed lemma is renamed too, and is mended by hand.
 """
 import glob
 import re
@@ -38,8 +41,7 @@ DEFINES = re.compile(
 
 
 def own_names(paths):
-    """What each .antt file defines: definitions, lemmas, fields and constructors. In a function's own folder a
-    name that it makes alone is the answer to a goal."""
+    """What each .antt file defines: definitions, lemmas, fields and constructors, and answers to goals."""
     names = {}
     for path in paths:
         for line in open(path, encoding="utf-8"):

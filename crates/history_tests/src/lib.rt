@@ -43,14 +43,31 @@ mod tests {
         Ok((told(outcomes[0]), ran.finished))
     }
 
-    // The call is answered so, and leaves these offsets, of whose rows so many are valid; the first bits are these.
+    // What a call is to be answered, by number and entry, and what it is to leave: the offsets, the used bytes, how many valid rows, the bit byte.
+    #[derive(Clone, Copy)]
+    struct Expected<'a> {
+        answer: (u8, u64),
+        offsets: &'a [u64],
+        bytes: &'a [u8],
+        valid: u64,
+        bits: u8,
+    }
+
+    // A call that adds nothing: refused with this number at entry 0, or accepted where the number is 0.
+    fn nothing(number: u8) -> Expected<'static> {
+        Expected {
+            answer: (number, 0),
+            offsets: &[0],
+            bytes: &[],
+            valid: 0,
+            bits: 0,
+        }
+    }
+
     fn expect<R: RowSource>(
         rt: &impl Abort,
         call: &Call<'_, R, CopyDecoder<'_>>,
-        answer: (u8, u64),
-        offsets: &[u64],
-        valid: u64,
-        bits_left: u8,
+        expected: Expected<'_>,
     ) -> Result<(), Fail> {
         let mut entries = [-1i32; 9];
         let mut heap = [0xA5u8; 16];
@@ -59,11 +76,17 @@ mod tests {
         let Ok((told, finished)) = one_call(&mut store, &mut heap, &mut bits, call) else {
             return Err(Fail::new("refused"));
         };
-        assert_eq!(rt; told, answer);
-        assert_eq!(rt; finished.valid, valid);
-        assert_eq!(rt; bits, [bits_left]);
-        assert_eq!(rt; store.len(), offsets.len() as u64);
-        for (i, offset) in offsets.iter().enumerate() {
+        assert_eq!(rt; told, expected.answer);
+        assert_eq!(rt;
+            (finished.bytes, finished.valid),
+            (expected.bytes.len() as u64, expected.valid)
+        );
+        assert_eq!(rt; bits, [expected.bits]);
+        for (i, byte) in expected.bytes.iter().enumerate() {
+            assert_eq!(rt; heap.get(i).copied(), Some(*byte));
+        }
+        assert_eq!(rt; store.len(), expected.offsets.len() as u64);
+        for (i, offset) in expected.offsets.iter().enumerate() {
             assert_eq!(rt; store.get(i as u64), Some(*offset));
         }
         Ok(())
@@ -74,28 +97,23 @@ mod tests {
         source: &R,
         indices: IntegerSlice<'_>,
         validity: Mask<'_>,
-        answer: (u8, u64),
-        offsets: &[u64],
-        valid: u64,
-        bits_left: u8,
+        expected: Expected<'_>,
     ) -> Result<(), Fail> {
         let call = Call::Take {
             source,
             indices,
             validity,
         };
-        expect(rt, &call, answer, offsets, valid, bits_left)
+        expect(rt, &call, expected)
     }
 
+    // One run, of a declared length that is its own.
     fn gather_one<'a, R: RowSource>(
         rt: &impl Abort,
         source: &'a R,
         starts: UnsignedSlice<'a>,
         len: u64,
-        answer: (u8, u64),
-        offsets: &[u64],
-        valid: u64,
-        bits_left: u8,
+        expected: Expected<'_>,
     ) -> Result<(), Fail> {
         let call = Call::GatherSlices {
             source,
@@ -103,20 +121,17 @@ mod tests {
             lengths: RunLengths::Same(len),
             declared: len,
         };
-        expect(rt, &call, answer, offsets, valid, bits_left)
+        expect(rt, &call, expected)
     }
 
     fn filter_from<R: RowSource>(
         rt: &impl Abort,
         source: &R,
         mask: Mask<'_>,
-        answer: (u8, u64),
-        offsets: &[u64],
-        valid: u64,
-        bits_left: u8,
+        expected: Expected<'_>,
     ) -> Result<(), Fail> {
         let call = Call::Filter { source, mask };
-        expect(rt, &call, answer, offsets, valid, bits_left)
+        expect(rt, &call, expected)
     }
 
     // Selections from sample column K: rows 47 37, null, C2 B5 6D.
@@ -125,50 +140,54 @@ mod tests {
             len: 3,
             bytes: &[0x05],
         };
-        take_from(
-            rt,
-            k,
-            IntegerSlice::U8(&[1, 7, 2]),
-            ends,
-            (0, 0),
-            &[0, 0, 0, 3],
-            1,
-            0x04,
-        )?;
+        let last = Expected {
+            answer: (0, 0),
+            offsets: &[0, 0, 0, 3],
+            bytes: &[0xC2, 0xB5, 0x6D],
+            valid: 1,
+            bits: 0x04,
+        };
+        let one_null = Expected {
+            answer: (0, 0),
+            offsets: &[0, 0],
+            bytes: &[],
+            valid: 0,
+            bits: 0,
+        };
+        let all = Expected {
+            answer: (0, 0),
+            offsets: &[0, 2, 2, 5],
+            bytes: &[0x47, 0x37, 0xC2, 0xB5, 0x6D],
+            valid: 2,
+            bits: 0x05,
+        };
+        let both_ends = Expected {
+            answer: (0, 0),
+            offsets: &[0, 2, 5],
+            bytes: &[0x47, 0x37, 0xC2, 0xB5, 0x6D],
+            valid: 2,
+            bits: 0x03,
+        };
+        take_from(rt, k, IntegerSlice::U8(&[1, 7, 2]), ends, last)?;
         take_from(
             rt,
             k,
             IntegerSlice::I8(&[-1]),
             Mask::new_true(1),
-            (11, 0),
-            &[0],
-            0,
-            0,
+            nothing(11),
         )?;
         take_from(
             rt,
             k,
             IntegerSlice::U64(&[99]),
             Mask::new_false(1),
-            (0, 0),
-            &[0, 0],
-            0,
-            0,
+            one_null,
         )?;
-        gather_one(
-            rt,
-            k,
-            UnsignedSlice::U8(&[0]),
-            3,
-            (0, 0),
-            &[0, 2, 2, 5],
-            2,
-            0x05,
-        )?;
-        gather_one(rt, k, UnsignedSlice::U16(&[99]), 0, (0, 0), &[0], 0, 0)?;
-        gather_one(rt, k, UnsignedSlice::U32(&[1]), 3, (11, 0), &[0], 0, 0)?;
-        filter_from(rt, k, ends, (0, 0), &[0, 2, 5], 2, 0x03)?;
-        filter_from(rt, k, Mask::new_true(4), (12, 0), &[0], 0, 0)
+        gather_one(rt, k, UnsignedSlice::U8(&[0]), 3, all)?;
+        gather_one(rt, k, UnsignedSlice::U16(&[99]), 0, nothing(0))?;
+        gather_one(rt, k, UnsignedSlice::U32(&[1]), 3, nothing(11))?;
+        filter_from(rt, k, ends, both_ends)?;
+        filter_from(rt, k, Mask::new_true(4), nothing(12))
     }
 
     #[test]
