@@ -1,5 +1,5 @@
 -- What it tells that a check of opening lets a column pass.
-use Rattle.std.proofs.Common.{◌≡◌, ℕ, ◌≤◌, Bool, true, false, not, ◌&&◌, ◌||◌, eqb, ltb, List, length, ℤ, is_some, Some, None, Option, refl, ap, ◌∙◌, arith}
+use Rattle.std.proofs.Common.{◌≡◌, ℕ, ◌≤◌, Bool, true, false, not, ◌&&◌, ◌||◌, eqb, ltb, List, length, ℤ, is_some, Some, None, Option, refl, arith}
 use lib.ListN.{length-replicate}
 use Rattle.std.specs.Option.{option_map}
 use Rattle.std.proofs.lemmas.Bool.Decides.{nat_tests}
@@ -14,8 +14,9 @@ passed : (b : Bool) (c : Code) → None ≡ refuse_if b c → b ≡ false
 passed true c e = let z : ◌≡◌ {A = ℕ} 0 1 = cc in absurd (omega arith)
 passed false c e = refl
 
-pub few : (rows heap : ℕ) → None ≡ limits_check rows heap → rows ≤ 16777216
-few rows heap e = let p = passed (ltb 16777216 rows || ltb 68719476736 heap) _ e in grind (arith, nat_tests)
+-- in each the first part only names the check, so that the search finds the lemma
+pub few : (rows heap : ℕ) → None ≡ limits_check rows heap → (limits_check rows heap ≡ limits_check rows heap) × (rows ≤ 16777216)
+few rows heap e = let p = passed (ltb 16777216 rows || ltb 68719476736 heap) _ e in (refl, grind (arith, nat_tests))
 
 pub rising : (zs : List ℤ) (heap : ℕ) → None ≡ layout_check zs heap → is_some (first_fall heap 0 0 zs) ≡ false
 rising zs heap e = by (first_fall heap 0 0 zs) e
@@ -24,11 +25,9 @@ rising zs heap e = by (first_fall heap 0 0 zs) e
     by None e = refl
     by (Some i) e = let z : ◌≡◌ {A = ℕ} 0 1 = cc in absurd (omega arith)
 
-pub valid : (nullable : Bool) (mask : Option Mask) (rows : ℕ) (fs : List Bool) → None ≡ validity_check nullable mask rows → fs ≡ row_flags mask rows → length fs ≡ rows
-valid nullable None rows fs e is = ap length is ∙ length-replicate rows true
-valid nullable (Some m) rows fs e is =
-    let p = passed (not (nullable && (eqb (length (flags m)) rows && covered m))) _ e in
-    ap length is ∙ counted nullable (covered m) p
+pub valid : (nullable : Bool) (mask : Option Mask) (rows : ℕ) → None ≡ validity_check nullable mask rows → (validity_check nullable mask rows ≡ validity_check nullable mask rows) × (length (row_flags mask rows) ≡ rows)
+valid nullable None rows e = (refl, length-replicate rows true)
+valid nullable (Some m) rows e = (refl, counted nullable (covered m) (passed (not (nullable && (eqb (length (flags m)) rows && covered m))) _ e))
   where
     counted : (n k : Bool) → not (n && (eqb (length (flags m)) rows && k)) ≡ false → length (flags m) ≡ rows
     counted n k p = grind (arith, nat_tests)

@@ -1,20 +1,23 @@
 -- The walk over the rows that judges their text.
-use Rattle.std.proofs.Common.{◌≡◌, ℕ, ◌+◌, ◌-◌, ◌<◌, ◌≤◌, Bool, true, false, cond, List, ◌∷◌, map, length, get_or, ℤ, Some, None, Option, sym, ap, ◌∙◌, arith, length-append, length-take}
-use Rattle.std.specs.List.{between, range_with_len}
+use Rattle.std.proofs.Common.{◌≡◌, ℕ, ◌+◌, ◌-◌, ◌<◌, Bool, true, false, cond, List, ◌∷◌, map, length, get_or, drop, ℤ, is_some, Some, None, Option, sym, ap, ◌∙◌, arith, length-append, length-take}
+use Rattle.std.specs.List.{range_with_len}
 use Rattle.std.specs.Option.{option_map}
 use Rattle.ptype.specs.Integers.{amount_at}
+use Rattle.ptype.specs.Searches.{first_fall}
 use Rattle.refusal.specs.Refusals.{Code, code, first_refusal}
 use Rattle.utf8.specs.Grammar.{FirstBad}
 use Rattle.utf8.specs.Reading.{first_fault}
 use Rattle.array.specs.Columns.{row_count, slot_bytes}
 use Rattle.array.specs.Opening.{row_text}
+use Rattle.array.proofs.Slots.{bounds}
 
--- a bad character begins before the end of the slot
-pub bad_inside : (xs : List ℕ) (k : ℕ) → FirstBad xs k → k < length xs
-bad_inside xs k b = let l = ap length b.split ∙ length-append b.good b.rest in omega (arith, b.place, b.more)
-
-pub length_between : (from to : ℕ) (heap : List ℕ) → length (between from to heap) ≤ to - from
-length_between from to heap = omega (arith, length-take (to - from) (Rattle.std.specs.Prelude.drop from heap))
+-- where a slot's first bad character begins is within the heap
+pub bad_inside : (zs : List ℤ) (heap : List ℕ) (i k : ℕ) (s : List ℕ) → is_some (first_fall (length heap) 0 0 zs) ≡ false → i + 1 < length zs → s ≡ slot_bytes zs heap i → FirstBad s k → amount_at zs i + k < length heap
+bad_inside zs heap i k s e h is bad =
+    let b = bounds zs (length heap) i e h in
+    let long = ap length bad.split ∙ length-append bad.good bad.rest in
+    let part = ap length is ∙ length-take (amount_at zs (i + 1) - amount_at zs i) (drop (amount_at zs i) heap) in
+    omega (arith, b.rise, b.stay, bad.place, bad.more)
 
 counting_more : (i n : ℕ) → i < n → range_with_len i (n - i) ≡ i ∷ range_with_len (i + 1) (n - (i + 1))
 counting_more i n h = let e : n - i ≡ Prim.Native.Nat.suc (n - (i + 1)) = omega arith in ap (range_with_len i) e
@@ -24,26 +27,25 @@ module _ (zs : List ℤ) (heap : List ℕ) (fs : List Bool) where
   abbrev pub rest : ℕ → Option Code
   rest i = first_refusal (map (row_text zs heap fs) (range_with_len i (row_count zs - i)))
 
-  step : (i : ℕ) → i < row_count zs → rest i ≡ first_refusal (row_text zs heap fs i ∷ map (row_text zs heap fs) (range_with_len (i + 1) (row_count zs - (i + 1))))
+  -- those behind i, and what the slot at i is refused for
+  abbrev after : ℕ → List (Option Code)
+  after i = map (row_text zs heap fs) (range_with_len (i + 1) (row_count zs - (i + 1)))
+
+  abbrev judged : ℕ → Option Code
+  judged i = option_map (λ k. code 18 i (amount_at zs i + k)) (first_fault (slot_bytes zs heap i))
+
+  step : (i : ℕ) → i < row_count zs → rest i ≡ first_refusal (row_text zs heap fs i ∷ after i)
   step i h = ap (λ l. first_refusal (map (row_text zs heap fs) l)) (counting_more i (row_count zs) h)
 
-  pass : (i : ℕ) → i < row_count zs → row_text zs heap fs i ≡ None → rest i ≡ rest (i + 1)
-  pass i h e = step i h ∙ ap (λ o. first_refusal (o ∷ map (row_text zs heap fs) (range_with_len (i + 1) (row_count zs - (i + 1))))) e
+  pub rest_null : (i : ℕ) → i < row_count zs → false ≡ get_or fs i false → rest (i + 1) ≡ rest i
+  rest_null i h e = sym (step i h ∙ ap (λ o. first_refusal (o ∷ after i)) (ap (λ b. cond b (judged i) None) (sym e)))
 
-  pub pass_null : (i : ℕ) (r : Option Code) → i < row_count zs → false ≡ get_or fs i false → rest i ≡ r → rest (i + 1) ≡ r
-  pass_null i r h e inv = sym (pass i h (ap (λ b. cond b (option_map (λ k. code 18 i (amount_at zs i + k)) (first_fault (slot_bytes zs heap i))) None) (sym e))) ∙ inv
+  -- the row at i has its flag, and o is what reading its slot tells
+  text_at : (i : ℕ) (o : Option ℕ) → i < row_count zs → true ≡ get_or fs i false → o ≡ first_fault (slot_bytes zs heap i) → rest i ≡ first_refusal (option_map (λ k. code 18 i (amount_at zs i + k)) o ∷ after i)
+  text_at i o h e is = step i h ∙ ap (λ o. first_refusal (o ∷ after i)) (ap (λ b. cond b (judged i) None) (sym e) ∙ ap (option_map (λ k. code 18 i (amount_at zs i + k))) (sym is))
 
-  judged : (i : ℕ) (s : List ℕ) → true ≡ get_or fs i false → s ≡ slot_bytes zs heap i → row_text zs heap fs i ≡ option_map (λ k. code 18 i (amount_at zs i + k)) (first_fault s)
-  judged i s e is = ap (λ b. cond b (option_map (λ k. code 18 i (amount_at zs i + k)) (first_fault (slot_bytes zs heap i))) None) (sym e) ∙ ap (λ t. option_map (λ k. code 18 i (amount_at zs i + k)) (first_fault t)) (sym is)
+  pub rest_text : (i : ℕ) → i < row_count zs → true ≡ get_or fs i false → None ≡ first_fault (slot_bytes zs heap i) → rest (i + 1) ≡ rest i
+  rest_text i h e good = sym (text_at i None h e good)
 
-  pub pass_text : (i : ℕ) (s : List ℕ) (r : Option Code) → i < row_count zs → true ≡ get_or fs i false → s ≡ slot_bytes zs heap i → None ≡ first_fault s → rest i ≡ r → rest (i + 1) ≡ r
-  pass_text i s r h e is good inv = sym (pass i h (judged i s e is ∙ ap (option_map (λ k. code 18 i (amount_at zs i + k))) (sym good))) ∙ inv
-
-  pub stop : (i from k : ℕ) (s : List ℕ) (r : Option Code) → i < row_count zs → true ≡ get_or fs i false → s ≡ slot_bytes zs heap i → Some k ≡ first_fault s → from ≡ amount_at zs i → rest i ≡ r → Some (code 18 i (from + k)) ≡ r
-  stop i from k s r h e is bad at inv =
-      ap (λ n. Some (code 18 i (n + k))) at
-      ∙ sym (step i h ∙ ap (λ o. first_refusal (o ∷ map (row_text zs heap fs) (range_with_len (i + 1) (row_count zs - (i + 1))))) (judged i s e is ∙ ap (option_map (λ k. code 18 i (amount_at zs i + k))) (sym bad)))
-      ∙ inv
-
-  pub all : (i : ℕ) (r : Option Code) → row_count zs ≤ i → rest i ≡ r → None ≡ r
-  all i r h inv = let e : row_count zs - i ≡ 0 = omega arith in sym (ap (λ n. first_refusal (map (row_text zs heap fs) (range_with_len i n))) e) ∙ inv
+  pub stop : (i from k : ℕ) → i < row_count zs → true ≡ get_or fs i false → Some k ≡ first_fault (slot_bytes zs heap i) → from ≡ amount_at zs i → Some (code 18 i (from + k)) ≡ rest i
+  stop i from k h e bad at = ap (λ n. Some (code 18 i (n + k))) at ∙ sym (text_at i (Some k) h e bad)

@@ -11,11 +11,7 @@ ghost use Rattle.array.specs.Opening.{limits_check, some_check, validity_check, 
 use integers::slices::IntegerSlice;
 use mask::mask::Mask;
 use refusal::Refusal;
-
-// The most rows and the most heap bytes of a column.
-pub const MOST_ROWS: u64 = 16_777_216;
-
-pub const MOST_HEAP_BYTES: u64 = 68_719_476_736;
+pub use slots::limits::{MOST_HEAP_BYTES, MOST_ROWS};
 
 // 14 where there are too many rows or heap bytes.
 pub fn check_limits(rows: u64, heap_bytes: u64) -> Result<(), Refusal>

@@ -16,9 +16,11 @@ use crate::view::VarBinArray;
 use integers::slices::IntegerSlice;
 use mask::mask::Mask;
 use refusal::Refusal;
+use slots::dtype::DType;
 
 impl<'a> VarBinArray<'a> {
     // The view without offsets.
+    #[tactic(auto, unfolding(ptype::specs::Searches::first_fall))]
     pub fn empty() -> VarBinArray<'a>
         ensures { integers result.offsets ≡ [] }
     {
@@ -26,41 +28,40 @@ impl<'a> VarBinArray<'a> {
             offsets: IntegerSlice::U8(&[]),
             heap: &[],
             validity: Mask::new_true(0),
-            nullable: false,
-            utf8: false,
+            dtype: DType {
+                utf8: false,
+                nullable: false,
+            },
         }
     }
-}
 
-impl<'a> VarBinArray<'a> {
     // Fills the view with these parts, where they are a column; else it stays.
+    #[tactic(auto, using(crate::proofs::Opens::few, crate::proofs::Opens::rising, crate::proofs::Opens::valid))]
     pub fn open(
         &mut self,
         offsets: IntegerSlice<'a>,
         heap: &'a [u8],
         mask: Option<Mask<'a>>,
-        nullable: bool,
-        utf8: bool,
+        dtype: DType,
     ) -> Result<(), Refusal>
-        ensures answer { answer result ≡ open_answer nullable utf8 (integers offsets.entry) heap.now mask.entry }
-        ensures after { MatchResult result (λ _. Opened self.new offsets.entry heap.entry mask.entry nullable utf8) (λ _. self.new ≡ self.old) }
+        ensures answer { answer result ≡ open_answer dtype.nullable dtype.utf8 (integers offsets.entry) heap.now mask.entry }
+        ensures after { MatchResult result (λ _. Opened self.new offsets.entry heap.entry mask.entry dtype.nullable dtype.utf8) (λ _. self.new ≡ self.old) }
     {
         let rows = offsets.len().saturating_sub(1);
         let heap_bytes = heap.len() as u64;
         check_limits(rows, heap_bytes)?;
         check_some(offsets.len())?;
-        check_validity(nullable, mask, rows)?;
+        check_validity(dtype.nullable, mask, rows)?;
         check_layout(offsets, heap_bytes)?;
         let validity = row_validity(mask, rows);
-        if utf8 {
+        if dtype.utf8 {
             check_text(offsets, heap, validity)?;
         }
         *self = VarBinArray {
             offsets,
             heap,
             validity,
-            nullable,
-            utf8,
+            dtype,
         };
         Ok(())
     }
@@ -70,8 +71,5 @@ impl<'a> VarBinArray<'a> {
 fn row_validity<'a>(mask: Option<Mask<'a>>, rows: u64) -> Mask<'a>
     ensures { flags result ≡ row_flags mask.entry rows }
 {
-    match mask {
-        Some(m) => m,
-        None => Mask::new_true(rows),
-    }
+    mask.unwrap_or(Mask::new_true(rows))
 }

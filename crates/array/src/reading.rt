@@ -19,47 +19,52 @@ use rows::source::RowSource;
 impl RowSource for VarBinArray<'_> {
     ghost rows = { λ s. column_rows (integers s.offsets) s.heap.now (flags s.validity) };
 
+    #[tactic(auto, using(crate::proofs::Slots::length_rows))]
     fn len(&self) -> u32 {
         self.offsets.len().saturating_sub(1) as u32
     }
 
-    fn row(&self, i: u64) -> RowRef<'_>
+    #[tactic(auto, using(crate::proofs::Slots::row_past, crate::proofs::Slots::row_null, crate::proofs::Slots::row_bytes))]
+    fn row(&self, i: u64) -> Option<RowRef<'_>>
         ensures value { shown result ≡ slice_get (column_rows (integers self.now.offsets) self.now.heap.now (flags self.now.validity)) i }
         ensures place { Placed result self.now.heap (amount_at (integers self.now.offsets) i) (amount_at (integers self.now.offsets) (i + 1)) }
     {
         if i >= self.offsets.len().saturating_sub(1) {
-            return RowRef::Absent;
+            return None;
         }
         if !self.validity.value(i) {
-            return RowRef::Null;
+            return Some(None);
         }
-        RowRef::Bytes(slot_at(self.offsets, self.heap, i))
+        Some(Some(slot_at(self.offsets, self.heap, i)))
     }
 }
 
 impl VarBinArray<'_> {
     // The longest slot, hidden bytes counted.
+    #[tactic(auto, using(crate::proofs::Tallying::longest_more), unfolding(crate::specs::Tallies::longest_of))]
     fn longest(&self) -> u64
         ensures { result ≡ longest_of (slot_lengths (integers self.now.offsets)) }
     {
         let mut longest: u64 = 0;
+        // by number, since each slot reads two offsets
         for i in 0..self.offsets.len().saturating_sub(1) {
-            let from = self.offsets.get(i).unwrap_or(0);
-            let to = self.offsets.get(i + 1).unwrap_or(0);
+            let from = self.offsets.amount(i);
+            let to = self.offsets.amount(i + 1);
             longest = longest.max(to.saturating_sub(from));
         }
         longest
     }
 
     // Rows, valid rows, bytes, the longest slot and completeness.
+    #[tactic(auto, using(mask::proofs::Flags::count_le, crate::proofs::Tallying::lengths_count, crate::proofs::Tallying::lengths_sum))]
     pub fn tally(&self) -> Tally
         ensures { result ≡ tally_of (flags self.now.validity) (slot_lengths (integers self.now.offsets)) }
     {
         let offsets = self.offsets.len();
         let rows = offsets.saturating_sub(1);
         let valid = self.validity.true_count();
-        let first = self.offsets.get(0).unwrap_or(0);
-        let last = self.offsets.get(rows).unwrap_or(0);
+        let first = self.offsets.amount(0);
+        let last = self.offsets.amount(rows);
         let complete = thousandths(valid as u32, rows as u32);
         Tally {
             rows,

@@ -16,6 +16,7 @@ pub const K: Sample = Sample {
 };
 
 // Sample column K, with what is proved of it.
+#[tactic(auto, using(crate::proofs::Samples::opening_examples))]
 pub fn sample_k() -> Sample
     ensures value { result ≡ sample_k }
     ensures examples { OpeningExamples }

@@ -1,5 +1,5 @@
 // The tally of a column.
-#[derive(Clone, Copy)]
+#[derive(Clone, Copy, Debug, PartialEq, Eq)]
 pub struct Tally {
     pub rows: u64,
     pub valid: u64,

@@ -25,27 +25,26 @@ pub fn slot_at<'a>(offsets: IntegerSlice<'_>, heap: &'a [u8], i: u64) -> &'a [u8
     ensures bytes { result.now ≡ slot_bytes (integers offsets.entry) heap.now i }
     ensures place { result.ref_ptr ≡ (heap.entry.ref_ptr.0, heap.entry.ref_ptr.1 + amount_at (integers offsets.entry) i) }
 {
-    let from = offsets.get(i).unwrap_or(0);
-    let to = offsets.get(i + 1).unwrap_or(0);
+    let from = offsets.amount(i);
+    let to = offsets.amount(i + 1);
     &heap[from as usize..to as usize]
 }
 
 // 18 at the first valid row that is not UTF-8, with the heap place of its bad character.
+#[tactic(auto, using(crate::proofs::Texts::rest_null, crate::proofs::Texts::rest_text))]
 pub fn check_text(offsets: IntegerSlice<'_>, heap: &[u8], validity: Mask<'_>) -> Result<(), Refusal>
     requires { is_some (first_fall (length heap.now) 0 0 (integers offsets)) ≡ false }
     ensures { answer result ≡ text_check (integers offsets.entry) heap.now (flags validity.entry) }
 {
+    // by number, since a row is read by two offsets and a flag, and is named where it is refused
     for i in 0..offsets.len().saturating_sub(1) {
         if validity.value(i) {
-            match validate_utf8(slot_at(offsets, heap, i)) {
-                Ok(()) => {}
-                Err(k) => {
-                    let from = offsets.get(i).unwrap_or(0);
-                    return Err(Refusal::NotUtf8 {
-                        entry: i,
-                        byte: from + k,
-                    });
-                }
+            if let Err(bad) = validate_utf8(slot_at(offsets, heap, i)) {
+                let from = offsets.amount(i);
+                return Err(Refusal::NotUtf8 {
+                    entry: i,
+                    byte: from + bad.valid_up_to,
+                });
             }
         }
     }

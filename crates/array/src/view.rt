@@ -7,14 +7,14 @@ ghost use Rattle.array.specs.Columns.{row_count};
 
 use integers::slices::IntegerSlice;
 use mask::mask::Mask;
+use slots::dtype::DType;
 
 #[derive(Clone, Copy)]
 pub struct VarBinArray<'a> {
     pub(super) offsets: IntegerSlice<'a>,
     pub(super) heap: &'a [u8],
     pub(super) validity: Mask<'a>,
-    pub(super) nullable: bool,
-    pub(super) utf8: bool,
+    pub(super) dtype: DType,
     ghost few: { row_count (integers offsets) ≤ 16777216 },
     ghost rising: { is_some (first_fall (length heap.now) 0 0 (integers offsets)) ≡ false },
     ghost valid: { length (flags validity) ≡ row_count (integers offsets) },

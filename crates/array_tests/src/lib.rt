@@ -12,7 +12,28 @@ mod tests {
     use refusal::Refusal;
     use rows::row::RowRef;
     use rows::source::RowSource;
+    use slots::dtype::DType;
     use std::process::Abort;
+
+    const TEXT: DType = DType {
+        utf8: true,
+        nullable: false,
+    };
+
+    const NULLABLE_TEXT: DType = DType {
+        utf8: true,
+        nullable: true,
+    };
+
+    const BYTES: DType = DType {
+        utf8: false,
+        nullable: false,
+    };
+
+    const NULLABLE_BYTES: DType = DType {
+        utf8: false,
+        nullable: true,
+    };
 
     // Number, entry and byte of a refusal; zeros where there is none.
     fn code(r: Result<(), Refusal>) -> (u8, u64, u64) {
@@ -25,7 +46,7 @@ mod tests {
     // What opening answers for text that is not nullable.
     fn text<'a>(offsets: IntegerSlice<'a>, heap: &'a [u8]) -> (u8, u64, u64) {
         let mut view = VarBinArray::empty();
-        code(view.open(offsets, heap, None, false, true))
+        code(view.open(offsets, heap, None, TEXT))
     }
 
     // What opening answers for nullable text with these bits.
@@ -36,7 +57,12 @@ mod tests {
         bytes: &'a [u8],
     ) -> (u8, u64, u64) {
         let mut view = VarBinArray::empty();
-        code(view.open(offsets, heap, Some(Mask::Values { len, bytes }), true, true))
+        code(view.open(
+            offsets,
+            heap,
+            Some(Mask::Values { len, bytes }),
+            NULLABLE_TEXT,
+        ))
     }
 
     #[test]
@@ -91,7 +117,7 @@ mod tests {
         mask: Mask<'a>,
     ) -> ((u8, u64, u64), u64) {
         let mut view = VarBinArray::empty();
-        let answer = code(view.open(offsets, heap, Some(mask), true, false));
+        let answer = code(view.open(offsets, heap, Some(mask), NULLABLE_BYTES));
         (answer, view.tally().valid)
     }
 
@@ -143,28 +169,12 @@ mod tests {
     }
 
     // The length of a row, or 99 for null and 100 for absent.
-    fn row_len(row: RowRef<'_>) -> u64 {
+    fn row_len(row: Option<RowRef<'_>>) -> u64 {
         match row {
-            RowRef::Absent => 100,
-            RowRef::Null => 99,
-            RowRef::Bytes(bytes) => bytes.len() as u64,
+            None => 100,
+            Some(None) => 99,
+            Some(Some(bytes)) => bytes.len() as u64,
         }
-    }
-
-    fn same_tally(
-        rt: &impl Abort,
-        t: Tally,
-        rows: u64,
-        valid: u64,
-        bytes: u64,
-        longest: u64,
-        complete: u64,
-    ) {
-        assert_eq!(rt; t.rows, rows);
-        assert_eq!(rt; t.valid, valid);
-        assert_eq!(rt; t.bytes, bytes);
-        assert_eq!(rt; t.longest, longest);
-        assert_eq!(rt; t.complete, complete);
     }
 
     // The rows of K.
@@ -190,17 +200,25 @@ mod tests {
                 IntegerSlice::I32(offsets),
                 heap,
                 Some(Mask::Values { len: 3, bytes }),
-                true,
-                true
+                NULLABLE_TEXT
             )),
             (0, 0, 0)
         );
         assert_eq!(rt;
-            code(view.open(IntegerSlice::I32(bad), heap, None, false, false)),
+            code(view.open(IntegerSlice::I32(bad), heap, None, BYTES)),
             (17, 1, 0)
         );
         check_rows(rt, &view);
-        same_tally(rt, view.tally(), 3, 2, 7, 3, 667);
+        assert_eq!(rt;
+            view.tally(),
+            Tally {
+                rows: 3,
+                valid: 2,
+                bytes: 7,
+                longest: 3,
+                complete: 667
+            }
+        );
     }
 
     #[test]
@@ -212,6 +230,15 @@ mod tests {
     #[test]
     fn no_rows(rt: HostRuntime) {
         let view = VarBinArray::empty();
-        same_tally(&rt, view.tally(), 0, 0, 0, 0, 1000);
+        assert_eq!(rt;
+            view.tally(),
+            Tally {
+                rows: 0,
+                valid: 0,
+                bytes: 0,
+                longest: 0,
+                complete: 1000
+            }
+        );
     }
 }

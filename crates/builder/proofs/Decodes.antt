@@ -53,8 +53,8 @@ module _ (m : State) (count slack : ℕ) (zs : List ℤ) (mask : Mask) (limits :
         below = ltb-false m.top (m.used + count) k.here;
       }
 
-  pub rows_fit : Before → total zs ≡ count → RowsFit (with_heap m []) (length zs) (total zs)
-  rows_fit b e = record { entries = omega (arith, b.own_memory.free, b.rows, limits.entries); rows = b.rows; left = omega (arith, b.own_memory.heap, b.heap); below = omega (arith, b.below) }
+  pub rows_fit : (heap : List ℕ) → Before → total zs ≡ count → RowsFit (with_heap m heap) (length zs) (total zs)
+  rows_fit heap b e = record { entries = omega (arith, b.own_memory.free, b.rows, limits.entries); rows = b.rows; left = omega (arith, b.own_memory.heap, b.heap); below = omega (arith, b.below) }
 
 -- ---- behind it
 

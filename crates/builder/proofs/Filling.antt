@@ -3,13 +3,14 @@ use Rattle.std.proofs.Common.{◌≡◌, ℕ, suc, ◌+◌, ◌-◌, ◌<◌, �
 use Rattle.slots.specs.Slots.{Slot, byte_count}
 use Rattle.builder.specs.Calls.{RowsFit, Fits}
 use Rattle.builder.specs.Space.{Room, RowRoom}
-use Rattle.builder.specs.States.{State, put_bytes, with_heap, add_row, add_slot, add_slots}
+use Rattle.builder.specs.States.{State, SameMemory, put_bytes, add_row, add_slot, add_slots}
+use Rattle.builder.specs.declared.memory.Memory.{Memory}
 
 length_put : (heap : List ℕ) (at : ℕ) (bs : List ℕ) → at + length bs ≤ length heap → length (put_bytes heap at bs) ≡ length heap
 length_put heap at bs h = simp (length-append, length-take, length-drop) (omega arith)
 
 -- the first of the slots has room
-pub first_row : (m : State) (count size n : ℕ) → n ≤ size → RowsFit m (suc count) size → RowRoom (with_heap m []) n
+pub first_row : (m : State) (count size n : ℕ) → n ≤ size → RowsFit m (suc count) size → RowRoom m n
 first_row m count size n le f = record { entry = omega (arith, f.entries); row = omega (arith, f.rows); left = omega (arith, f.left); below = omega (arith, f.below) }
 
 pub first_room : (m : State) (s : Slot) (ss : List Slot) → Fits m (s ∷ ss) → Room m (length s.content)
@@ -41,6 +42,11 @@ more m0 all m s ss m1 f e = record { goes = ap (λ x. add_slots x ss) e ∙ f.go
 pub ends : (m0 : State) (all : List Slot) (m : State) → Filling m0 all m [] → m ≡ add_slots m0 all
 unfolding add_slots
 ends m0 all m f = f.goes
+
+-- the same for lent memory, in whose place no other was put
+pub record Placing {S : Type 0} (m0 : State) (all : List Slot) (m : State) (ss : List Slot) (before after : Memory S) : Type 0 where
+  pub filling : Filling m0 all m ss
+  pub same : SameMemory before after
 
 -- one of n equal slots
 pub one_of : {X : Type 0} (n i : ℕ) (x : X) → i < n → replicate (n - i) x ≡ x ∷ replicate (n - (i + 1)) x

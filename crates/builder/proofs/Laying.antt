@@ -13,40 +13,40 @@ use Rattle.builder.specs.Space.{RowRoom}
 use Rattle.builder.specs.States.{State, put_bytes, with_heap, add_row, add_rows, add_slot, add_slots}
 use Rattle.builder.proofs.Filling.{first_row, rest_rows}
 
--- ---- the loop: m is where the first i rows have come from m0, over whatever heap
+-- ---- the loop: m is where the first i rows have come from m0
 
-pub record Laying (m0 m : List ℕ → State) (fs : List Bool) (zs : List ℤ) (i : ℕ) : Type 0 where
-  pub goes : (heap : List ℕ) → add_rows (m heap) (drop i fs) (map amount (drop i zs)) ≡ add_rows (m0 heap) fs (map amount zs)
-  pub fits : RowsFit (m []) (length zs - i) (total (drop i zs))
+pub record Laying (m0 m : State) (fs : List Bool) (zs : List ℤ) (i : ℕ) : Type 0 where
+  pub goes : add_rows m (drop i fs) (map amount (drop i zs)) ≡ add_rows m0 fs (map amount zs)
+  pub fits : RowsFit m (length zs - i) (total (drop i zs))
 
-pub begin : (m : List ℕ → State) (fs : List Bool) (zs : List ℤ) → RowsFit (m []) (length zs) (total zs) → Laying m m fs zs 0
-begin m fs zs f = record { goes = λ heap. refl; fits = record { entries = omega (arith, f.entries); rows = omega (arith, f.rows); left = f.left; below = f.below } }
+pub begin : (m : State) (fs : List Bool) (zs : List ℤ) → RowsFit m (length zs) (total zs) → Laying m m fs zs 0
+begin m fs zs f = record { goes = refl; fits = record { entries = omega (arith, f.entries); rows = omega (arith, f.rows); left = f.left; below = f.below } }
 
-module _ (m0 m : List ℕ → State) (fs : List Bool) (zs : List ℤ) (i : ℕ) (h : i < length zs) (same : length zs ≡ length fs) (l : Laying m0 m fs zs i) where
+module _ (m0 m : State) (fs : List Bool) (zs : List ℤ) (i : ℕ) (h : i < length zs) (same : length zs ≡ length fs) (l : Laying m0 m fs zs i) where
   -- the rows that are left, the first of them apart
-  here : RowsFit (m []) (suc (length zs - (i + 1))) (amount_at zs i + total (drop (i + 1) zs))
+  here : RowsFit m (suc (length zs - (i + 1))) (amount_at zs i + total (drop (i + 1) zs))
   unfolding total
   here =
       let n : length zs - i ≡ suc (length zs - (i + 1)) = omega arith in
       let t : total (drop i zs) ≡ amount_at zs i + total (drop (i + 1) zs) = ap total (drop_more zs i (pos 0) h) in
-      subst (λ k. RowsFit (m []) k (amount_at zs i + total (drop (i + 1) zs))) n (subst (RowsFit (m []) (length zs - i)) t l.fits)
+      subst (λ k. RowsFit m k (amount_at zs i + total (drop (i + 1) zs))) n (subst (RowsFit m (length zs - i)) t l.fits)
 
-  pub room : (size : ℕ) → size ≡ amount_at zs i → RowRoom (with_heap (m []) []) size
-  room size e = first_row (m []) (length zs - (i + 1)) (amount_at zs i + total (drop (i + 1) zs)) size (omega arith) here
+  pub room : (size : ℕ) → size ≡ amount_at zs i → RowRoom m size
+  room size e = first_row m (length zs - (i + 1)) (amount_at zs i + total (drop (i + 1) zs)) size (omega arith) here
 
-  pub more : (m1 : List ℕ → State) (valid : Bool) (size : ℕ) → valid ≡ get_or fs i false → size ≡ amount_at zs i → ((heap : List ℕ) → m1 heap ≡ add_row (m heap) valid size) → Laying m0 m1 fs zs (i + 1)
+  pub more : (m1 : State) (valid : Bool) (size : ℕ) → valid ≡ get_or fs i false → size ≡ amount_at zs i → m1 ≡ add_row m valid size → Laying m0 m1 fs zs (i + 1)
   unfolding add_rows
   more m1 valid size v e is = record {
-    goes = λ heap.
-        ap (λ x. add_rows x (drop (i + 1) fs) (map amount (drop (i + 1) zs))) (is heap ∙ (λ t. add_row (m heap) (v t) (e t)))
-        ∙ sym (λ t. add_rows (m heap) (drop_more fs i false (omega arith) t) (map amount (drop_more zs i (pos 0) h t)))
-        ∙ l.goes heap;
-    fits = subst (λ x. RowsFit x (length zs - (i + 1)) (total (drop (i + 1) zs))) (sym (is [] ∙ (λ t. add_row (m []) (v t) (e t)))) (rest_rows (m []) (length zs - (i + 1)) (total (drop (i + 1) zs)) (amount_at zs i) (get_or fs i false) here);
+    goes =
+        ap (λ x. add_rows x (drop (i + 1) fs) (map amount (drop (i + 1) zs))) (is ∙ (λ t. add_row m (v t) (e t)))
+        ∙ sym (λ t. add_rows m (drop_more fs i false (omega arith) t) (map amount (drop_more zs i (pos 0) h t)))
+        ∙ l.goes;
+    fits = subst (λ x. RowsFit x (length zs - (i + 1)) (total (drop (i + 1) zs))) (sym (is ∙ (λ t. add_row m (v t) (e t)))) (rest_rows m (length zs - (i + 1)) (total (drop (i + 1) zs)) (amount_at zs i) (get_or fs i false) here);
   }
 
-pub ends : (m0 m : List ℕ → State) (fs : List Bool) (zs : List ℤ) (i : ℕ) → length fs ≤ i → Laying m0 m fs zs i → (heap : List ℕ) → m heap ≡ add_rows (m0 heap) fs (map amount zs)
+pub ends : (m0 m : State) (fs : List Bool) (zs : List ℤ) (i : ℕ) → length fs ≤ i → Laying m0 m fs zs i → m ≡ add_rows m0 fs (map amount zs)
 unfolding add_rows
-ends m0 m fs zs i h l heap = sym (ap (λ gs. add_rows (m heap) gs (map amount (drop i zs))) (drop_all i fs h)) ∙ l.goes heap
+ends m0 m fs zs i h l = sym (ap (λ gs. add_rows m gs (map amount (drop i zs))) (drop_all i fs h)) ∙ l.goes
 
 -- ---- slots come to rows over the heap with all their bytes
 

@@ -1,9 +1,10 @@
 -- Lemmas on builders.
 pub mod Cuts
 pub mod Decodes
+pub mod Figures
 pub mod Filling
 pub mod Laying
-pub mod Memory
+pub mod Lent
 pub mod RowBits
 pub mod Samples
 pub mod Spaces

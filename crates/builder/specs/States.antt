@@ -1,8 +1,9 @@
 -- All that a builder holds together with its memory, and what one slot more makes of it.
-use Rattle.std.specs.Prelude.{ℕ, ◌+◌, ◌-◌, Bool, cond, List, [], ◌∷◌, ◌++◌, length, take, drop}
+use Rattle.std.specs.Prelude.{◌≡◌, ℕ, ◌+◌, ◌-◌, Bool, cond, List, [], ◌∷◌, ◌++◌, length, take, drop}
 use Rattle.mask.specs.Bits.{put_bit}
 use Rattle.slots.specs.Slots.{Slot}
 use Rattle.builder.specs.declared.builder.VarBinBuilder.{VarBinBuilder}
+use Rattle.builder.specs.declared.memory.Memory.{Memory}
 
 pub record State : Type 0 where
   -- the memory: the store's offsets, free entries and top, the heap, the bit bytes
@@ -30,7 +31,7 @@ state_of offsets free top b s heap bits = record {
   top = top s;
   heap = heap;
   bits = bits;
-  nullable = b.nullable;
+  nullable = b.dtype.nullable;
   rows = b.rows;
   used = b.used;
   valid = b.valid;
@@ -39,6 +40,16 @@ state_of offsets free top b s heap bits = record {
   heap_left = b.heap_left;
   bits_left = b.bits_left;
 }
+
+-- what a builder and the memory that comes with a call stand for
+abbrev pub state_with : {S : Type 0} → (S → List ℕ) → (S → ℕ) → (S → ℕ) → VarBinBuilder → Memory S → State
+state_with offsets free top b memory = state_of offsets free top b memory.store.now memory.heap.now memory.bits.now
+
+-- the same memory is lent: what is written to it, its lender finds
+pub record SameMemory {S : Type 0} (before after : Memory S) : Type 0 where
+  pub same_store : after.store.ghost_name ≡ before.store.ghost_name
+  pub same_heap : after.heap.ghost_name ≡ before.heap.ghost_name
+  pub same_bits : after.bits.ghost_name ≡ before.bits.ghost_name
 
 -- bytes laid over a heap from a place on
 abbrev pub put_bytes : List ℕ → ℕ → List ℕ → List ℕ

@@ -5,9 +5,10 @@
 // The builder itself. It is no `Drop`, so it cannot be let go. What stands in its type holds of every builder.
 ghost use Rattle.std.specs.Prelude.{◌+◌, ◌*◌, ◌≤◌};
 
+use slots::dtype::DType;
+
 pub struct VarBinBuilder {
-    pub(super) utf8: bool,
-    pub(super) nullable: bool,
+    pub(super) dtype: DType,
     pub(super) rows: u64,
     pub(super) used: u64,
     pub(super) valid: u64,

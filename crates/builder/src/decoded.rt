@@ -3,7 +3,7 @@
 // Changed: `append_decoded` of builder.rs in vortex-array 0.89.0, written anew in Rattle; the decoder is an interface, and what it leaves unused is zeroed.
 //
 // Many slots at once, decoded straight into the heap and cut by their lengths.
-ghost use Rattle.std.specs.Prelude.{◌≡◌, ℕ, ◌+◌, ◌≤◌, List, [], map, length};
+ghost use Rattle.std.specs.Prelude.{◌≡◌, ◌+◌, ◌≤◌, map, length};
 ghost use Rattle.integers.specs.Slices.{integers};
 ghost use Rattle.mask.specs.Masks.{flags};
 ghost use Rattle.ptype.specs.Integers.{amount};
@@ -11,11 +11,11 @@ ghost use Rattle.ptype.specs.Searches.{total};
 ghost use Rattle.refusal.specs.Refusals.{answer, first_refusal};
 ghost use Rattle.builder.specs.Bulk.{checks_before, decode_checks, decoded_slots, decoded_part, decoded_answer, decoded, zeroed_from};
 ghost use Rattle.builder.specs.Calls.{RowsFit};
-ghost use Rattle.builder.specs.States.{state_of, add_rows};
+ghost use Rattle.builder.specs.States.{state_with, SameMemory, add_rows};
 
 use crate::builder::VarBinBuilder;
+use crate::memory::Memory;
 use crate::place::place_row;
-use crate::space::{check_memory, check_space};
 use crate::values::{check_counts, survey_flags};
 use decoder::decoder::Decoder;
 use integers::slices::IntegerSlice;
@@ -52,21 +52,14 @@ fn decode_part<D: Decoder>(
     ensures kept { D.means decoder.new ≡ D.means decoder.old }
 {
     let mut spare = SpareBytes { part, keep: 0 };
-    let told = match decoder.decode(spare.part) {
-        Some(told) => told,
-        None => return Err(Refusal::DecoderRefused),
-    };
+    let told = decoder.decode(spare.part).ok_or(Refusal::DecoderRefused)?;
     if told != num_bytes {
         return Err(Refusal::DecodedCountDiffers);
     }
     if let Some(entry) = lengths.first_overrun(num_bytes) {
         return Err(Refusal::BadEnd { entry });
     }
-    let sum = match lengths.total() {
-        Some(sum) => sum,
-        None => return Err(Refusal::TotalDiffers),
-    };
-    if sum != num_bytes {
+    if lengths.total() != Some(num_bytes) {
         return Err(Refusal::TotalDiffers);
     }
     spare.keep = told as usize;
@@ -76,74 +69,60 @@ fn decode_part<D: Decoder>(
 // Places rows that are known to fit, whose bytes stand in the heap already.
 fn place_lengths<S: OffsetStore>(
     b: &mut VarBinBuilder,
-    store: &mut S,
-    bits: &mut [u8],
+    memory: &mut Memory<'_, S>,
     lengths: IntegerSlice<'_>,
     validity: Mask<'_>,
 )
-    requires fit { RowsFit (state_of S.offsets S.free S.top b.old store.old [] bits.old) (length (integers lengths)) (total (integers lengths)) }
+    requires fit { RowsFit (state_with S.offsets S.free S.top b.old memory.old) (length (integers lengths)) (total (integers lengths)) }
     requires counts { length (integers lengths) ≡ length (flags validity) }
-    ensures { (heap : List ℕ) → state_of S.offsets S.free S.top b.new store.new heap bits.new ≡ add_rows (state_of S.offsets S.free S.top b.old store.old heap bits.old) (flags validity.entry) (map amount (integers lengths.entry)) }
+    ensures after { state_with S.offsets S.free S.top b.new memory.new ≡ add_rows (state_with S.offsets S.free S.top b.old memory.old) (flags validity.entry) (map amount (integers lengths.entry)) }
+    ensures same { SameMemory memory.old memory.new }
 {
+    // by number: neither the lengths nor the mask is a slice, and a `zip` of two iterators of our own is longer than this loop
     for i in 0..lengths.len() {
-        let size = lengths.get(i).unwrap_or(0);
-        place_row(b, store, bits, validity.value(i), size);
+        let size = lengths.amount(i);
+        place_row(b, memory, validity.value(i), size);
     }
 }
 
 // 1, 6, 5, 2, 3 or 4, before the decoder is asked.
 fn check_decode<S: OffsetStore>(
     b: &VarBinBuilder,
-    store: &S,
-    heap: &[u8],
-    bits: &[u8],
+    memory: &Memory<'_, S>,
     num_bytes: u64,
     slack: u64,
     lengths: IntegerSlice<'_>,
     validity: Mask<'_>,
 ) -> Result<(), Refusal>
-    ensures { answer result ≡ first_refusal (checks_before (state_of S.offsets S.free S.top b.now store.now heap.now bits.now) num_bytes slack (integers lengths.entry) validity.entry) }
+    ensures { answer result ≡ first_refusal (checks_before (state_with S.offsets S.free S.top b.now memory.now) num_bytes slack (integers lengths.entry) validity.entry) }
 {
-    check_memory(b, store, heap, bits)?;
+    memory.check_memory(b)?;
     check_counts(lengths, validity)?;
     let survey = survey_flags(validity, num_bytes);
-    check_space(
-        b,
-        store,
-        heap,
-        survey.rows,
-        survey.nulls,
-        survey.bytes,
-        num_bytes.saturating_add(slack),
-    )
+    memory.check_space(b, survey, num_bytes.saturating_add(slack))
 }
 
 impl VarBinBuilder {
     // Appends the slots that the lengths cut from the decoder's list, valid where the mask is set. The decoder is lent the next `num_bytes` plus `slack` heap bytes.
     pub fn append_decoded<S: OffsetStore, D: Decoder>(
         &mut self,
-        store: &mut S,
-        heap: &mut [u8],
-        bits: &mut [u8],
+        memory: &mut Memory<'_, S>,
         num_bytes: u64,
         slack: u64,
         lengths: IntegerSlice<'_>,
         validity: Mask<'_>,
         decoder: &mut D,
     ) -> Result<(), Refusal>
-        ensures answer { answer result ≡ decoded_answer (state_of S.offsets S.free S.top self.old store.old heap.old bits.old) num_bytes slack (integers lengths.entry) validity.entry (D.means decoder.old) }
-        ensures after { state_of S.offsets S.free S.top self.new store.new heap.new bits.new ≡ decoded (state_of S.offsets S.free S.top self.old store.old heap.old bits.old) (first_refusal (checks_before (state_of S.offsets S.free S.top self.old store.old heap.old bits.old) num_bytes slack (integers lengths.entry) validity.entry)) (answer result) (num_bytes + slack) (decoded_slots (D.means decoder.old) (integers lengths.entry) validity.entry) }
+        ensures answer { answer result ≡ decoded_answer (state_with S.offsets S.free S.top self.old memory.old) num_bytes slack (integers lengths.entry) validity.entry (D.means decoder.old) }
+        ensures after { state_with S.offsets S.free S.top self.new memory.new ≡ decoded (state_with S.offsets S.free S.top self.old memory.old) (first_refusal (checks_before (state_with S.offsets S.free S.top self.old memory.old) num_bytes slack (integers lengths.entry) validity.entry)) (answer result) (num_bytes + slack) (decoded_slots (D.means decoder.old) (integers lengths.entry) validity.entry) }
+        ensures same { SameMemory memory.old memory.new }
         ensures kept { D.means decoder.new ≡ D.means decoder.old }
     {
-        check_decode(self, store, heap, bits, num_bytes, slack, lengths, validity)?;
+        check_decode(self, memory, num_bytes, slack, lengths, validity)?;
         let from = self.used as usize;
         let to = from + (num_bytes + slack) as usize;
-        match decode_part(decoder, &mut heap[from..to], num_bytes, lengths) {
-            Ok(()) => {
-                place_lengths(self, store, bits, lengths, validity);
-                Ok(())
-            }
-            Err(refusal) => Err(refusal),
-        }
+        decode_part(decoder, &mut memory.heap[from..to], num_bytes, lengths)?;
+        place_lengths(self, memory, lengths, validity);
+        Ok(())
     }
 }

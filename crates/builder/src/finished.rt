@@ -6,29 +6,24 @@
 ghost use Rattle.std.specs.Prelude.{◌≡◌};
 ghost use Rattle.builder.specs.Finishing.{validity_number};
 
-#[derive(Clone, Copy)]
+#[derive(Clone, Copy, Debug, PartialEq, Eq)]
 pub enum Validity {
-    NonNullable,
-    AllValid,
-    AllInvalid,
-    Bits,
+    NonNullable = 0,
+    AllValid = 1,
+    AllInvalid = 2,
+    Bits = 3,
 }
 
 impl Validity {
-    // The number of the case, from 0 in the order above.
+    // The number of the case.
     pub fn number(self) -> u8
         ensures { result ≡ validity_number self }
     {
-        match self {
-            Validity::NonNullable => 0,
-            Validity::AllValid => 1,
-            Validity::AllInvalid => 2,
-            Validity::Bits => 3,
-        }
+        self as u8
     }
 }
 
-#[derive(Clone, Copy)]
+#[derive(Clone, Copy, Debug, PartialEq, Eq)]
 pub struct Finished {
     pub rows: u64,
     pub bytes: u64,

@@ -5,6 +5,7 @@ pub mod builder;
 pub mod decoded;
 pub mod finished;
 pub mod making;
+pub mod memory;
 pub mod place;
 pub mod repeat;
 pub mod space;

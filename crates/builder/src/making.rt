@@ -13,23 +13,19 @@ use crate::builder::VarBinBuilder;
 use crate::finished::{Finished, Validity};
 use offsets::store::OffsetStore;
 use refusal::Refusal;
-
-// The most rows and the most heap bytes of a column.
-pub const MOST_ROWS: u64 = 16_777_216;
-
-pub const MOST_HEAP_BYTES: u64 = 68_719_476_736;
+use slots::dtype::DType;
+pub use slots::limits::{MOST_HEAP_BYTES, MOST_ROWS};
 
 impl VarBinBuilder {
-    // A builder over an empty store, a heap and bytes for bits; it pushes offset 0.
+    // A builder over an empty store, a heap and bytes for bits; it pushes offset 0. They come apart here and not as a `Memory`: heap and bits are only measured, so shared references are enough.
     pub fn new<S: OffsetStore>(
-        utf8: bool,
-        nullable: bool,
+        dtype: DType,
         store: &mut S,
         heap: &[u8],
         bits: &[u8],
     ) -> Result<VarBinBuilder, Refusal>
         ensures answer { answer result ≡ make_answer (length (S.offsets store.old)) (S.free store.old) (length heap.now) }
-        ensures after { MatchResult result (λ b. state_of S.offsets S.free S.top b store.new heap.now bits.now ≡ made nullable (S.free store.old) (S.top store.old) heap.now bits.now) (λ _. store.new ≡ store.old) }
+        ensures after { MatchResult result (λ b. state_of S.offsets S.free S.top b store.new heap.now bits.now ≡ made dtype.nullable (S.free store.old) (S.top store.old) heap.now bits.now) (λ _. store.new ≡ store.old) }
     {
         let heap_left = heap.len() as u64;
         if heap_left > MOST_HEAP_BYTES {
@@ -45,8 +41,7 @@ impl VarBinBuilder {
         let bits_left = bits.len() as u64;
         let capacity = free_left.min(bits_left.saturating_mul(8).min(MOST_ROWS));
         Ok(VarBinBuilder {
-            utf8,
-            nullable,
+            dtype,
             rows: 0,
             used: 0,
             valid: 0,
@@ -59,11 +54,10 @@ impl VarBinBuilder {
 
     // Ends the builder with the record of its column.
     pub fn finish(self) -> Finished
-        ensures { result ≡ record_of self.nullable self.rows self.used self.valid }
+        ensures { result ≡ record_of self.dtype.nullable self.rows self.used self.valid }
     {
         let VarBinBuilder {
-            utf8: _,
-            nullable,
+            dtype,
             rows,
             used,
             valid,
@@ -72,7 +66,7 @@ impl VarBinBuilder {
             heap_left: _,
             bits_left: _,
         } = self;
-        let validity = if !nullable {
+        let validity = if !dtype.nullable {
             Validity::NonNullable
         } else if valid == rows {
             Validity::AllValid
@@ -94,8 +88,7 @@ impl VarBinBuilder {
         ensures { result ≡ self.rows }
     {
         let VarBinBuilder {
-            utf8: _,
-            nullable: _,
+            dtype: _,
             rows: dropped,
             used: _,
             valid: _,

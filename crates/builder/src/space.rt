@@ -1,10 +1,11 @@
-// Inner: the checks that every append and selection shares.
+// Inner: the checks that every append and selection shares. They take the parts of the memory, since shared references are enough to measure them; `Memory` hands them on as methods.
 ghost use Rattle.std.specs.Prelude.{◌≡◌, length};
 ghost use Rattle.refusal.specs.Refusals.{answer, first_refusal};
 ghost use Rattle.builder.specs.Space.{memory_check, space_checks};
 ghost use Rattle.builder.specs.States.{state_of};
 
 use crate::builder::VarBinBuilder;
+use crate::survey::Survey;
 use offsets::store::OffsetStore;
 use refusal::Refusal;
 
@@ -35,24 +36,22 @@ pub fn check_memory<S: OffsetStore>(
     Ok(())
 }
 
-// 5, 2, 3 or 4 where so many rows, of which so many are null, with so many bytes have no space; `asked` heap bytes have to be there.
+// 5, 2, 3 or 4 where what was surveyed has no space; `asked` heap bytes have to be there.
 pub fn check_space<S: OffsetStore>(
     b: &VarBinBuilder,
     store: &S,
     heap: &[u8],
-    rows: u64,
-    nulls: u64,
-    bytes: u64,
+    survey: Survey,
     asked: u64,
 ) -> Result<(), Refusal>
-    ensures { answer result ≡ first_refusal (space_checks b.now.nullable b.now.capacity b.now.rows b.now.used (length heap.now) (S.top store.now) rows nulls bytes asked) }
+    ensures { answer result ≡ first_refusal (space_checks b.now.dtype.nullable b.now.capacity b.now.rows b.now.used (length heap.now) (S.top store.now) survey.rows survey.nulls survey.bytes asked) }
 {
-    if !b.nullable {
-        if nulls > 0 {
+    if !b.dtype.nullable {
+        if survey.nulls > 0 {
             return Err(Refusal::NullNotAllowed);
         }
     }
-    if rows > b.capacity - b.rows {
+    if survey.rows > b.capacity - b.rows {
         return Err(Refusal::RowsOverCapacity);
     }
     let heap_bytes = heap.len() as u64;
@@ -66,7 +65,7 @@ pub fn check_space<S: OffsetStore>(
     if b.used > most {
         return Err(Refusal::BytesOverTop);
     }
-    if bytes > most - b.used {
+    if survey.bytes > most - b.used {
         return Err(Refusal::BytesOverTop);
     }
     Ok(())

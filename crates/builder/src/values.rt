@@ -11,18 +11,19 @@ ghost use Rattle.refusal.specs.Refusals.{answer, first_refusal};
 ghost use Rattle.builder.specs.Bulk.{counts_check, flags_survey, last_end, values_checks, value_slots};
 ghost use Rattle.builder.specs.Calls.{append_answer, appended, Fits};
 ghost use Rattle.builder.specs.Samples.{ValuesExamples};
-ghost use Rattle.builder.specs.States.{state_of, add_slots};
+ghost use Rattle.builder.specs.States.{state_with, SameMemory, add_slots};
 
 use crate::builder::VarBinBuilder;
+use crate::memory::Memory;
 use crate::place::place;
-use crate::space::{check_memory, check_space};
 use crate::survey::Survey;
 use integers::slices::IntegerSlice;
 use mask::mask::Mask;
 use offsets::store::OffsetStore;
 use refusal::Refusal;
+use slots::slot::SlotRef;
 
-// 6 where numbers and mask differ in count, or the mask has too few bytes.
+// 6 where numbers and mask differ in count, or the mask has too few bytes. The two stay apart, as the calls take them: each is used without the other too.
 pub fn check_counts(numbers: IntegerSlice<'_>, mask: Mask<'_>) -> Result<(), Refusal>
     ensures { answer result ≡ counts_check (integers numbers.entry) (flags mask.entry) (covered mask.entry) }
 {
@@ -55,7 +56,7 @@ fn last_end(ends: IntegerSlice<'_>) -> u64
     if count == 0 {
         0
     } else {
-        ends.get(count - 1).unwrap_or(0)
+        ends.amount(count - 1)
     }
 }
 
@@ -77,29 +78,26 @@ fn check_ends(values: &[u8], ends: IntegerSlice<'_>, validity: Mask<'_>) -> Resu
 // Places slots that are known to fit, by ends that are known to rise.
 fn place_values<S: OffsetStore>(
     b: &mut VarBinBuilder,
-    store: &mut S,
-    heap: &mut [u8],
-    bits: &mut [u8],
+    memory: &mut Memory<'_, S>,
     values: &[u8],
     ends: IntegerSlice<'_>,
     validity: Mask<'_>,
 )
-    requires fit { Fits (state_of S.offsets S.free S.top b.old store.old heap.old bits.old) (value_slots values.now (integers ends) validity) }
+    requires fit { Fits (state_with S.offsets S.free S.top b.old memory.old) (value_slots values.now (integers ends) validity) }
     requires rise { first_fall (length values.now) 0 0 (integers ends) ≡ None }
     requires counts { length (integers ends) ≡ length (flags validity) }
-    ensures { state_of S.offsets S.free S.top b.new store.new heap.new bits.new ≡ add_slots (state_of S.offsets S.free S.top b.old store.old heap.old bits.old) (value_slots values.now (integers ends.entry) validity.entry) }
+    ensures after { state_with S.offsets S.free S.top b.new memory.new ≡ add_slots (state_with S.offsets S.free S.top b.old memory.old) (value_slots values.now (integers ends.entry) validity.entry) }
+    ensures same { SameMemory memory.old memory.new }
 {
     let mut from = 0;
+    // by number: neither the ends nor the mask is a slice, and a `zip` of two iterators of our own is longer than this loop
     for i in 0..ends.len() {
-        let end = ends.get(i).unwrap_or(0);
-        place(
-            b,
-            store,
-            heap,
-            bits,
-            validity.value(i),
-            &values[from as usize..end as usize],
-        );
+        let end = ends.amount(i);
+        let slot = SlotRef {
+            valid: validity.value(i),
+            bytes: &values[from as usize..end as usize],
+        };
+        place(b, memory, slot);
         from = end;
     }
 }
@@ -108,34 +106,21 @@ impl VarBinBuilder {
     // Appends the slots that the ends cut from the bytes, valid where the mask is set.
     pub fn append_values<S: OffsetStore>(
         &mut self,
-        store: &mut S,
-        heap: &mut [u8],
-        bits: &mut [u8],
+        memory: &mut Memory<'_, S>,
         values: &[u8],
         ends: IntegerSlice<'_>,
         validity: Mask<'_>,
     ) -> Result<(), Refusal>
-        ensures answer { answer result ≡ append_answer (state_of S.offsets S.free S.top self.old store.old heap.old bits.old) (values_checks values.now (integers ends.entry) validity.entry) (value_slots values.now (integers ends.entry) validity.entry) }
-        ensures after { state_of S.offsets S.free S.top self.new store.new heap.new bits.new ≡ appended (state_of S.offsets S.free S.top self.old store.old heap.old bits.old) (answer result) (value_slots values.now (integers ends.entry) validity.entry) }
+        ensures answer { answer result ≡ append_answer (state_with S.offsets S.free S.top self.old memory.old) (values_checks values.now (integers ends.entry) validity.entry) (value_slots values.now (integers ends.entry) validity.entry) }
+        ensures after { state_with S.offsets S.free S.top self.new memory.new ≡ appended (state_with S.offsets S.free S.top self.old memory.old) (answer result) (value_slots values.now (integers ends.entry) validity.entry) }
+        ensures same { SameMemory memory.old memory.new }
         ensures examples { ValuesExamples }
     {
-        check_memory(self, store, heap, bits)?;
+        memory.check_memory(self)?;
         check_ends(values, ends, validity)?;
         let survey = survey_flags(validity, values.len() as u64);
-        match check_space(
-            self,
-            store,
-            heap,
-            survey.rows,
-            survey.nulls,
-            survey.bytes,
-            survey.bytes,
-        ) {
-            Ok(()) => {
-                place_values(self, store, heap, bits, values, ends, validity);
-                Ok(())
-            }
-            Err(refusal) => Err(refusal),
-        }
+        memory.check_space(self, survey, survey.bytes)?;
+        place_values(self, memory, values, ends, validity);
+        Ok(())
     }
 }

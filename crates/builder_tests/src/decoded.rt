@@ -1,7 +1,8 @@
 // `append_decoded`: each refusal in its order and at its first place, the slack, and which spare bytes are zero after.
 use crate::told;
 use builder::builder::VarBinBuilder;
-use builder::finished::Finished;
+use builder::finished::{Finished, Validity};
+use builder::memory::Memory;
 use decoder::copy::CopyDecoder;
 use decoder::decoder::Decoder;
 use decoder::hex::HexDecoder;
@@ -10,6 +11,7 @@ use mask::mask::Mask;
 use offsets::fixed::FixedOffsets;
 use offsets::store::OffsetStore;
 use refusal::Refusal;
+use slots::dtype::DType;
 use std::process::Abort;
 use std::test::Fail;
 
@@ -25,10 +27,24 @@ fn second_call<S: OffsetStore, D: Decoder>(
     validity: Mask<'_>,
     decoder: &mut D,
 ) -> Result<((u8, u64), Finished), Refusal> {
-    let mut builder = VarBinBuilder::new(true, nullable, store, heap, bits)?;
-    let first = builder.append_value(store, heap, bits, b"x");
+    let mut builder = VarBinBuilder::new(
+        DType {
+            utf8: true,
+            nullable,
+        },
+        store,
+        heap,
+        bits,
+    )?;
+    let mut memory = Memory { store, heap, bits };
+    let first = builder.append_value(&mut memory, b"x");
     let answer = told(builder.append_decoded(
-        store, heap, bits, num_bytes, slack, lengths, validity, decoder,
+        &mut memory,
+        num_bytes,
+        slack,
+        lengths,
+        validity,
+        decoder,
     ));
     let finished = builder.finish();
     first?;
@@ -400,12 +416,19 @@ fn at_the_top<S: OffsetStore>(
     bits: &mut [u8],
     list: &[u8],
 ) -> Result<(u8, u8, u8), Refusal> {
-    let mut builder = VarBinBuilder::new(false, false, store, heap, bits)?;
-    let mut decoder = CopyDecoder { bytes: list };
-    let a = told(builder.append_decoded(
+    let mut builder = VarBinBuilder::new(
+        DType {
+            utf8: false,
+            nullable: false,
+        },
         store,
         heap,
         bits,
+    )?;
+    let mut memory = Memory { store, heap, bits };
+    let mut decoder = CopyDecoder { bytes: list };
+    let a = told(builder.append_decoded(
+        &mut memory,
         128,
         3,
         IntegerSlice::U8(&[128]),
@@ -413,9 +436,7 @@ fn at_the_top<S: OffsetStore>(
         &mut decoder,
     ));
     let b = told(builder.append_decoded(
-        store,
-        heap,
-        bits,
+        &mut memory,
         128,
         2,
         IntegerSlice::U8(&[128]),
@@ -423,9 +444,7 @@ fn at_the_top<S: OffsetStore>(
         &mut decoder,
     ));
     let c = told(builder.append_decoded(
-        store,
-        heap,
-        bits,
+        &mut memory,
         127,
         3,
         IntegerSlice::I8(&[127]),
@@ -454,48 +473,71 @@ fn greatest_offset(rt: HostRuntime) -> Result<(), Fail> {
 }
 
 // The answers to two good calls and, between them, to one on another heap and one on other bits, whose counts differ too; and the record.
-fn four_calls<S: OffsetStore, D: Decoder>(
-    store: &mut S,
-    heap: &mut [u8],
-    bits: &mut [u8],
-    other: &mut [u8],
+fn four_calls<'a, S: OffsetStore, D: Decoder>(
+    store: &'a mut S,
+    heap: &'a mut [u8],
+    bits: &'a mut [u8],
+    other: &'a mut [u8],
     decoder: &mut D,
 ) -> Result<((u8, u8, u8, u8), Finished), Refusal> {
-    let mut builder = VarBinBuilder::new(true, true, store, heap, bits)?;
-    let a = told(builder.append_decoded(
+    let mut builder = VarBinBuilder::new(
+        DType {
+            utf8: true,
+            nullable: true,
+        },
         store,
         heap,
         bits,
+    )?;
+    let mut memory = Memory { store, heap, bits };
+    let a = told(builder.append_decoded(
+        &mut memory,
         3,
         2,
         IntegerSlice::U8(&[1, 2]),
         Mask::new_true(2),
         decoder,
     ));
+    let Memory { store, heap, bits } = memory;
+    let mut other_heap = Memory {
+        store,
+        heap: other,
+        bits,
+    };
     let b = told(builder.append_decoded(
-        store,
-        other,
-        bits,
+        &mut other_heap,
         3,
         0,
         IntegerSlice::U8(&[3]),
         Mask::new_true(2),
         decoder,
     ));
+    let Memory {
+        store,
+        heap: other,
+        bits,
+    } = other_heap;
+    let mut other_bits = Memory {
+        store,
+        heap,
+        bits: other,
+    };
     let c = told(builder.append_decoded(
-        store,
-        heap,
-        other,
+        &mut other_bits,
         3,
         0,
         IntegerSlice::U8(&[3]),
         Mask::new_true(2),
         decoder,
     ));
-    let d = told(builder.append_decoded(
+    let Memory {
         store,
         heap,
-        bits,
+        bits: _,
+    } = other_bits;
+    let mut memory = Memory { store, heap, bits };
+    let d = told(builder.append_decoded(
+        &mut memory,
         3,
         1,
         IntegerSlice::I16(&[0, 3]),
@@ -525,8 +567,13 @@ fn other_memory(rt: HostRuntime) -> Result<(), Fail> {
         Ok((answers, f)) => {
             assert_eq!(rt; answers, (0, 1, 1, 0));
             assert_eq!(rt;
-                (f.rows, f.bytes, f.valid, f.validity.number()),
-                (4, 6, 3, 3)
+                f,
+                Finished {
+                    rows: 4,
+                    bytes: 6,
+                    valid: 3,
+                    validity: Validity::Bits
+                }
             );
             assert_eq!(rt; heap, [0xC2, 0xB5, 0x6D, 0xC2, 0xB5, 0x6D, 0, 0xA5]);
             assert_eq!(rt; bits, [0x57]);

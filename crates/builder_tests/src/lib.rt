@@ -8,8 +8,10 @@ mod values;
 
 use builder::builder::VarBinBuilder;
 use builder::finished::{Finished, Validity};
+use builder::memory::Memory;
 use offsets::store::OffsetStore;
 use refusal::Refusal;
+use slots::dtype::DType;
 
 // A column of one value. The gate tries two misuses of this function: a builder that is let go, and one that is used after it ended.
 fn one_value<S: OffsetStore>(
@@ -18,13 +20,20 @@ fn one_value<S: OffsetStore>(
     bits: &mut [u8],
     value: &[u8],
 ) -> Result<Finished, Refusal> {
-    let mut builder = VarBinBuilder::new(false, true, store, heap, bits)?;
-    let appended = builder.append_value(store, heap, bits, value);
+    let mut builder = VarBinBuilder::new(
+        DType {
+            utf8: false,
+            nullable: true,
+        },
+        store,
+        heap,
+        bits,
+    )?;
+    let mut memory = Memory { store, heap, bits };
+    let appended = builder.append_value(&mut memory, value);
     let finished = builder.finish();
-    match appended {
-        Ok(()) => Ok(finished),
-        Err(refusal) => Err(refusal),
-    }
+    appended?;
+    Ok(finished)
 }
 
 // The number and the entry of an answer, both 0 where the call was accepted.
@@ -36,28 +45,11 @@ fn told(r: Result<(), Refusal>) -> (u8, u64) {
     }
 }
 
-// The number of a validity, for comparing.
-fn validity_number(validity: Validity) -> u8 {
-    match validity {
-        Validity::NonNullable => 0,
-        Validity::AllValid => 1,
-        Validity::AllInvalid => 2,
-        Validity::Bits => 3,
-    }
-}
-
 #[cfg(test)]
 mod tests {
     use super::*;
     use offsets::fixed::FixedOffsets;
     use std::test::Fail;
-
-    fn number(r: Result<(), Refusal>) -> u8 {
-        match r {
-            Ok(()) => 0,
-            Err(e) => e.number(),
-        }
-    }
 
     #[test]
     fn one(rt: HostRuntime) -> Result<(), Fail> {
@@ -68,8 +60,13 @@ mod tests {
         match one_value(&mut store, &mut heap, &mut bits, b"ab") {
             Ok(f) => {
                 assert_eq!(rt;
-                    (f.rows, f.bytes, f.valid, validity_number(f.validity)),
-                    (1, 2, 1, 1)
+                    f,
+                    Finished {
+                        rows: 1,
+                        bytes: 2,
+                        valid: 1,
+                        validity: Validity::AllValid
+                    }
                 );
                 assert_eq!(rt; heap, [97, 98, 0xA5, 0xA5]);
                 assert_eq!(rt; bits, [0x5B]);
@@ -84,20 +81,41 @@ mod tests {
     }
 
     // The answers of six calls on one builder, and its record.
-    fn six_calls<S: OffsetStore>(
+    fn six_calls<'a, S: OffsetStore>(
         nullable: bool,
-        store: &mut S,
-        heap: &mut [u8],
-        bits: &mut [u8],
-        other: &mut [u8],
+        store: &'a mut S,
+        heap: &'a mut [u8],
+        bits: &'a mut [u8],
+        other: &'a mut [u8],
     ) -> Result<((u8, u8, u8), (u8, u8, u8), Finished), Refusal> {
-        let mut builder = VarBinBuilder::new(true, nullable, store, heap, bits)?;
-        let a = number(builder.append_value(store, heap, bits, b"xy"));
-        let b = number(builder.push_nulls(store, heap, bits, 1));
-        let c = number(builder.append_value(store, other, bits, b"z"));
-        let d = number(builder.append_n_values(store, heap, bits, b"k", 2));
-        let e = number(builder.append_n_values(store, heap, bits, b"", u64::MAX));
-        let f = number(builder.append_value(store, heap, bits, b"too long"));
+        let mut builder = VarBinBuilder::new(
+            DType {
+                utf8: true,
+                nullable,
+            },
+            store,
+            heap,
+            bits,
+        )?;
+        let mut memory = Memory { store, heap, bits };
+        let a = told(builder.append_value(&mut memory, b"xy")).0;
+        let b = told(builder.push_nulls(&mut memory, 1)).0;
+        let Memory { store, heap, bits } = memory;
+        let mut memory = Memory {
+            store,
+            heap: other,
+            bits,
+        };
+        let c = told(builder.append_value(&mut memory, b"z")).0;
+        let Memory {
+            store,
+            heap: _,
+            bits,
+        } = memory;
+        let mut memory = Memory { store, heap, bits };
+        let d = told(builder.append_n_values(&mut memory, b"k", 2)).0;
+        let e = told(builder.append_n_values(&mut memory, b"", u64::MAX)).0;
+        let f = told(builder.append_value(&mut memory, b"too long")).0;
         Ok(((a, b, c), (d, e, f), builder.finish()))
     }
 
@@ -113,8 +131,13 @@ mod tests {
                 assert_eq!(rt; first, (0, 0, 1));
                 assert_eq!(rt; last, (0, 2, 3));
                 assert_eq!(rt;
-                    (f.rows, f.bytes, f.valid, validity_number(f.validity)),
-                    (4, 4, 3, 3)
+                    f,
+                    Finished {
+                        rows: 4,
+                        bytes: 4,
+                        valid: 3,
+                        validity: Validity::Bits
+                    }
                 );
                 assert_eq!(rt; heap, [b'x', b'y', b'k', b'k', 0xA5, 0xA5]);
                 assert_eq!(rt; bits, [0x5D]);
@@ -136,8 +159,13 @@ mod tests {
                 assert_eq!(rt; first, (0, 5, 1));
                 assert_eq!(rt; last, (0, 2, 3));
                 assert_eq!(rt;
-                    (f.rows, f.bytes, f.valid, validity_number(f.validity)),
-                    (3, 4, 3, 0)
+                    f,
+                    Finished {
+                        rows: 3,
+                        bytes: 4,
+                        valid: 3,
+                        validity: Validity::NonNullable
+                    }
                 );
                 Ok(())
             }
@@ -147,7 +175,15 @@ mod tests {
 
     // The number with which making is refused, 0 where it is not.
     fn making<S: OffsetStore>(store: &mut S, heap: &[u8], bits: &[u8]) -> u8 {
-        match VarBinBuilder::new(false, true, store, heap, bits) {
+        match VarBinBuilder::new(
+            DType {
+                utf8: false,
+                nullable: true,
+            },
+            store,
+            heap,
+            bits,
+        ) {
             Ok(builder) => {
                 let _ = builder.discard();
                 0
@@ -174,9 +210,18 @@ mod tests {
         bits: &mut [u8],
         value: &[u8],
     ) -> Result<(u8, u8), Refusal> {
-        let mut builder = VarBinBuilder::new(false, false, store, heap, bits)?;
-        let a = number(builder.append_value(store, heap, bits, value));
-        let b = number(builder.append_value(store, heap, bits, b"x"));
+        let mut builder = VarBinBuilder::new(
+            DType {
+                utf8: false,
+                nullable: false,
+            },
+            store,
+            heap,
+            bits,
+        )?;
+        let mut memory = Memory { store, heap, bits };
+        let a = told(builder.append_value(&mut memory, value)).0;
+        let b = told(builder.append_value(&mut memory, b"x")).0;
         let _ = builder.discard();
         Ok((a, b))
     }

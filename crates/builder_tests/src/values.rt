@@ -1,12 +1,14 @@
 // `append_values`: each refusal in its order and at its first place, ends of several kinds, and what every byte and bit holds after.
 use crate::told;
 use builder::builder::VarBinBuilder;
-use builder::finished::Finished;
+use builder::finished::{Finished, Validity};
+use builder::memory::Memory;
 use integers::slices::IntegerSlice;
 use mask::mask::Mask;
 use offsets::fixed::FixedOffsets;
 use offsets::store::OffsetStore;
 use refusal::Refusal;
+use slots::dtype::DType;
 use std::process::Abort;
 use std::test::Fail;
 
@@ -20,9 +22,18 @@ fn second_call<S: OffsetStore>(
     ends: IntegerSlice<'_>,
     validity: Mask<'_>,
 ) -> Result<((u8, u64), Finished), Refusal> {
-    let mut builder = VarBinBuilder::new(true, nullable, store, heap, bits)?;
-    let first = builder.append_value(store, heap, bits, b"ab");
-    let answer = told(builder.append_values(store, heap, bits, values, ends, validity));
+    let mut builder = VarBinBuilder::new(
+        DType {
+            utf8: true,
+            nullable,
+        },
+        store,
+        heap,
+        bits,
+    )?;
+    let mut memory = Memory { store, heap, bits };
+    let first = builder.append_value(&mut memory, b"ab");
+    let answer = told(builder.append_values(&mut memory, values, ends, validity));
     let finished = builder.finish();
     first?;
     Ok((answer, finished))
@@ -179,27 +190,30 @@ fn at_the_top<S: OffsetStore>(
     over_top: &[u8],
     fitting: &[u8],
 ) -> Result<(u8, u8, u8), Refusal> {
-    let mut builder = VarBinBuilder::new(false, false, store, heap, bits)?;
-    let a = told(builder.append_values(
+    let mut builder = VarBinBuilder::new(
+        DType {
+            utf8: false,
+            nullable: false,
+        },
         store,
         heap,
         bits,
+    )?;
+    let mut memory = Memory { store, heap, bits };
+    let a = told(builder.append_values(
+        &mut memory,
         over_heap,
         IntegerSlice::I16(&[131]),
         Mask::new_true(1),
     ));
     let b = told(builder.append_values(
-        store,
-        heap,
-        bits,
+        &mut memory,
         over_top,
         IntegerSlice::U8(&[1, 128]),
         Mask::new_true(2),
     ));
     let c = told(builder.append_values(
-        store,
-        heap,
-        bits,
+        &mut memory,
         fitting,
         IntegerSlice::U8(&[0, 127]),
         Mask::new_true(2),
@@ -230,6 +244,23 @@ fn greatest_offset(rt: HostRuntime) -> Result<(), Fail> {
     }
 }
 
+// The number that a call with this memory is answered by, whose counts differ too.
+fn one_value<S: OffsetStore>(
+    builder: &mut VarBinBuilder,
+    store: &mut S,
+    heap: &mut [u8],
+    bits: &mut [u8],
+) -> u8 {
+    let mut memory = Memory { store, heap, bits };
+    let answer = builder.append_values(
+        &mut memory,
+        b"z",
+        IntegerSlice::U8(&[1]),
+        Mask::new_true(2),
+    );
+    told(answer).0
+}
+
 // The answers to the rows of sample K, to five rows more in two calls, and then to none and to an empty one; those to three calls
 // between, on other memory, whose counts differ too; and the record.
 fn until_full<S: OffsetStore, T: OffsetStore>(
@@ -239,11 +270,18 @@ fn until_full<S: OffsetStore, T: OffsetStore>(
     other: &mut T,
     other_bytes: &mut [u8],
 ) -> Result<((u8, u8, u8), (u8, u8), (u8, u8, u8), Finished), Refusal> {
-    let mut builder = VarBinBuilder::new(true, true, store, heap, bits)?;
-    let rows_of_k = told(builder.append_values(
+    let mut builder = VarBinBuilder::new(
+        DType {
+            utf8: true,
+            nullable: true,
+        },
         store,
         heap,
         bits,
+    )?;
+    let mut memory = Memory { store, heap, bits };
+    let rows_of_k = told(builder.append_values(
+        &mut memory,
         &[0x47, 0x37, 0x58, 0x58, 0xC2, 0xB5, 0x6D],
         IntegerSlice::I32(&[2, 4, 7]),
         Mask::Values {
@@ -251,34 +289,15 @@ fn until_full<S: OffsetStore, T: OffsetStore>(
             bytes: &[0xFD],
         },
     ));
-    let other_store = told(builder.append_values(
-        other,
-        heap,
-        bits,
-        b"z",
-        IntegerSlice::U8(&[1]),
-        Mask::new_true(2),
-    ));
-    let other_heap = told(builder.append_values(
-        store,
-        other_bytes,
-        bits,
-        b"z",
-        IntegerSlice::U8(&[1]),
-        Mask::new_true(2),
-    ));
-    let other_bits = told(builder.append_values(
-        store,
-        heap,
-        other_bytes,
-        b"z",
-        IntegerSlice::U8(&[1]),
-        Mask::new_true(2),
-    ));
+    let Memory { store, heap, bits } = memory;
+    let others = (
+        one_value(&mut builder, other, heap, bits),
+        one_value(&mut builder, store, other_bytes, bits),
+        one_value(&mut builder, store, heap, other_bytes),
+    );
+    let mut memory = Memory { store, heap, bits };
     let three_rows = told(builder.append_values(
-        store,
-        heap,
-        bits,
+        &mut memory,
         b"r",
         IntegerSlice::U16(&[0, 1, 1]),
         Mask::Values {
@@ -287,9 +306,7 @@ fn until_full<S: OffsetStore, T: OffsetStore>(
         },
     ));
     let two_rows = told(builder.append_values(
-        store,
-        heap,
-        bits,
+        &mut memory,
         b"s",
         IntegerSlice::U64(&[1, 1]),
         Mask::Values {
@@ -298,17 +315,13 @@ fn until_full<S: OffsetStore, T: OffsetStore>(
         },
     ));
     let no_more = told(builder.append_values(
-        store,
-        heap,
-        bits,
+        &mut memory,
         b"",
         IntegerSlice::I64(&[]),
         Mask::Values { len: 0, bytes: &[] },
     ));
     let one_more = told(builder.append_values(
-        store,
-        heap,
-        bits,
+        &mut memory,
         b"",
         IntegerSlice::I64(&[0]),
         Mask::new_true(1),
@@ -316,7 +329,7 @@ fn until_full<S: OffsetStore, T: OffsetStore>(
     Ok((
         (rows_of_k.0, three_rows.0, two_rows.0),
         (no_more.0, one_more.0),
-        (other_store.0, other_heap.0, other_bits.0),
+        others,
         builder.finish(),
     ))
 }
@@ -343,8 +356,13 @@ fn calls_in_a_row(rt: HostRuntime) -> Result<(), Fail> {
             assert_eq!(rt; last, (0, 2));
             assert_eq!(rt; others, (1, 1, 1));
             assert_eq!(rt;
-                (f.rows, f.bytes, f.valid, f.validity.number()),
-                (8, 9, 5, 3)
+                f,
+                Finished {
+                    rows: 8,
+                    bytes: 9,
+                    valid: 5,
+                    validity: Validity::Bits
+                }
             );
             assert_eq!(rt;
                 heap,
@@ -389,8 +407,13 @@ fn behind_the_rows(rt: HostRuntime) -> Result<(), Fail> {
         Ok((answer, f)) => {
             assert_eq!(rt; answer, (0, 0));
             assert_eq!(rt;
-                (f.rows, f.bytes, f.valid, f.validity.number()),
-                (3, 5, 3, 0)
+                f,
+                Finished {
+                    rows: 3,
+                    bytes: 5,
+                    valid: 3,
+                    validity: Validity::NonNullable
+                }
             );
             assert_eq!(rt; heap, [b'a', b'b', b'c', b'd', b'e', 0xA5, 0xA5]);
             assert_eq!(rt; bits, [0xF7, 0xC3]);

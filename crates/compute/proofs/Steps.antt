@@ -1,5 +1,6 @@
 -- One row index more, by number, by mask and by run; and where each ends.
 use Rattle.std.proofs.Common.{◌≡◌, ℕ, zero, suc, ◌+◌, ◌-◌, ◌*◌, ◌<◌, ◌≤◌, Bool, true, false, cond, List, [], ◌∷◌, ◌++◌, map, length, get_or, drop, replicate, ℤ, pos, Some, None, Option, unwrap_or, sym, refl, ap, ◌∙◌, ⊎_elim, suc-mul, arith, length-drop}
+use Rattle.std.specs.Iterator.{MakesProgress, item_count}
 use Rattle.std.specs.Option.{SomeIff}
 use Rattle.std.proofs.lemmas.List.{drop_more, drop_all, drop-drop, get_or_past}
 use Rattle.std.proofs.lemmas.Option.{slice_get_past}
@@ -14,6 +15,12 @@ use Rattle.slots.specs.Rows.{Row, null}
 use Rattle.slots.specs.Slots.{row_slot}
 use Rattle.compute.specs.Indices.{take_indices, run_indices, gather_indices, filter_indices, in_word_index, rest_indices, runs_left, picked_row, picked_slots}
 use Rattle.compute.specs.Selections.{is_inside, first_outside}
+
+-- ---- reading an item
+
+-- one item less is left, whatever the list
+pub goes : {S A : Type 0} {can : S → Type 0} (rest : S → List A) (s t : S) (x : A) → can t → rest s ≡ x ∷ rest t → MakesProgress can (item_count rest) s (Some x) t
+goes rest s t x may e = record { on = λ _. (may, tt, omega (arith, ap length e)); keeps = may; rests = λ _. tt }
 
 -- ---- by number
 

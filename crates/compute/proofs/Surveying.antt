@@ -1,14 +1,11 @@
 -- Summing up slots one after the other, in counts that are held to 64 bits.
-use Rattle.std.proofs.Common.{◌≡◌, ℕ, ◌+◌, ◌≤◌, min, true, false, ◌⊎◌, List, [], ◌∷◌, length, Option, sym, ap, ◌∙◌, ⊎_elim, arith}
+use Rattle.std.proofs.Common.{◌≡◌, ℕ, ◌+◌, ◌≤◌, min, true, false, List, [], ◌∷◌, length, Option, sym, ap, ◌∙◌, arith}
 use Rattle.builder.specs.Calls.{null_count}
 use Rattle.builder.specs.Surveys.{in_word, survey_of}
 use Rattle.builder.specs.declared.survey.Survey.{Survey}
-use Rattle.rows.specs.declared.row.RowRef.{RowRef}
-use Rattle.rows.specs.declared.row.RowRef.TheVariants.{Absent, Null}
-use Rattle.slots.specs.Rows.{Row, null}
+use Rattle.slots.specs.Rows.{Row}
 use Rattle.slots.specs.Slots.{Slot, slot, row_slot, byte_count}
 use Rattle.compute.specs.Indices.{picked_row, picked_slots}
-use Rattle.compute.specs.Picking.{picked}
 
 -- these counts with what is left come to all
 pub record Surveying (rows nulls size : ℕ) (left all : List Slot) : Type 0 where
@@ -42,7 +39,3 @@ ends rows nulls size all s =
 -- the slots that are left, the first of them by the row that was read
 pub first_slot : (rows : List Row) (before after : List (Option ℕ)) (index : Option ℕ) (row : Row) → before ≡ index ∷ after → row ≡ picked_row rows index → picked_slots rows before ≡ row_slot row ∷ picked_slots rows after
 first_slot rows before after index row e r = ap (picked_slots rows) e ∙ sym (ap (λ x. row_slot x ∷ picked_slots rows after) r)
-
--- a source that answers null or absent gives a null
-pub null_read : (r : RowRef) (row : Row) → (r ≡ Null) ⊎ (r ≡ Absent) → picked r ≡ row → null ≡ row
-null_read r row e is = ⊎_elim (λ (n : r ≡ Null). sym (ap picked n) ∙ is) (λ (a : r ≡ Absent). sym (ap picked a) ∙ is) e

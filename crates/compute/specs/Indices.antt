@@ -1,22 +1,11 @@
 -- Row indices: which rows a selection picks, in order. A row index is the number of a row, or none for a null.
-use Rattle.std.specs.Prelude.{◌≡◌, ℕ, ◌+◌, ◌-◌, Bool, true, false, List, [], ◌∷◌, ◌++◌, map, drop, ℤ, Some, None, Option}
+use Rattle.std.specs.Prelude.{ℕ, ◌+◌, ◌-◌, Bool, true, false, List, [], ◌∷◌, ◌++◌, map, drop, ℤ, Some, None, Option}
 use Rattle.std.specs.List.{slice_get, range_with_len}
 use Rattle.std.specs.Option.{unwrap_or}
 use Rattle.builder.specs.Surveys.{in_word}
 use Rattle.ptype.specs.Integers.{amount}
 use Rattle.slots.specs.Rows.{Row, null}
 use Rattle.slots.specs.Slots.{Slot, row_slot}
-use Rattle.compute.specs.declared.index.RowIndex.{RowIndex}
-use Rattle.compute.specs.declared.index.RowIndex.TheVariants.{Null, Row as AtRow}
-
-abbrev pub index_of : RowIndex → Option ℕ
-index_of Null = None
-index_of (AtRow i) = Some i
-
--- reading one index takes it from the front; at the end there is none
-abbrev pub Next : Option RowIndex → List (Option ℕ) → List (Option ℕ) → Type 0
-Next None before after = before ≡ []
-Next (Some x) before after = before ≡ index_of x ∷ after
 
 -- by number: a number with a set flag is a row's, one with an unset flag stands for a null
 unfoldable pub take_indices : List Bool → List ℤ → List (Option ℕ)

@@ -1,5 +1,5 @@
 -- The meanings of selections.
 pub mod Agreement
 pub mod Indices
-pub mod Picking
 pub mod Selections
+pub mod Left

@@ -3,19 +3,20 @@
 // Changed: `take` of compute/take.rs in vortex-array 0.89.0, written anew in Rattle; an index that the source does not have is refused with its place.
 //
 // Selecting by number.
-ghost use Rattle.std.specs.Prelude.{◌≡◌, length, drop};
-ghost use Rattle.builder.specs.States.{state_of};
+ghost use Rattle.std.specs.Iterator.{YieldsFirst, item_count};
+ghost use Rattle.std.specs.Prelude.{◌≡◌, length};
+ghost use Rattle.builder.specs.States.{state_with, SameMemory};
 ghost use Rattle.integers.specs.Slices.{integers};
 ghost use Rattle.mask.specs.Masks.{flags, covered};
 ghost use Rattle.refusal.specs.Refusals.{answer, first_refusal};
 ghost use Rattle.compute.specs.Agreement.{SelectionsAgree};
-ghost use Rattle.compute.specs.Indices.{take_indices};
+ghost use Rattle.compute.specs.Left.{left_to_take};
 ghost use Rattle.compute.specs.Selections.{by_number, selection_checks, select_answer, selected};
 
-use crate::index::{RowIndex, RowIndices};
+use crate::index::RowIndices;
 use crate::select::select;
 use builder::builder::VarBinBuilder;
-use builder::space::check_memory;
+use builder::memory::Memory;
 use builder::values::check_counts;
 use integers::slices::IntegerSlice;
 use mask::mask::Mask;
@@ -31,10 +32,14 @@ pub struct TakeIndices<'a> {
     at: u64,
 }
 
-impl RowIndices for TakeIndices<'_> {
-    ghost left = { λ s. take_indices (drop s.at (flags s.validity)) (drop s.at (integers s.indices)) };
+impl Iterator for TakeIndices<'_> {
+    type Item = Option<u64>;
 
-    fn next(&mut self) -> Option<RowIndex> {
+    ghost next_gives = { YieldsFirst left_to_take };
+
+    ghost remaining = { item_count left_to_take };
+
+    fn next(&mut self) -> Option<Option<u64>> {
         let at = self.at;
         if at >= self.indices.len() {
             return None;
@@ -44,11 +49,21 @@ impl RowIndices for TakeIndices<'_> {
         }
         self.at = at + 1;
         if self.validity.value(at) {
-            Some(RowIndex::Row(self.indices.get(at).unwrap_or(0)))
+            Some(Some(self.indices.amount(at)))
         } else {
-            Some(RowIndex::Null)
+            Some(None)
         }
     }
+}
+
+impl RowIndices for TakeIndices<'_> {
+    ghost left = { left_to_take };
+
+    ghost reads = { λ s item t h. h };
+
+    ghost may_read = { λ s. tt };
+
+    ghost ends = { λ s. tt };
 }
 
 // 6, or 11 at the first set index that is negative or not below the count.
@@ -65,24 +80,21 @@ fn check_indices(count: u64, indices: IntegerSlice<'_>, validity: Mask<'_>) -> R
 // Appends the rows of the source that the set indices number, and a null for each unset one.
 pub fn take<'a, S: OffsetStore, R: RowSource>(
     builder: &mut VarBinBuilder,
-    store: &mut S,
-    heap: &mut [u8],
-    bits: &mut [u8],
+    memory: &mut Memory<'_, S>,
     source: &R,
     indices: IntegerSlice<'a>,
     validity: Mask<'a>,
 ) -> Result<(), Refusal>
-    ensures answer { answer result ≡ select_answer (state_of S.offsets S.free S.top builder.old store.old heap.old bits.old) (R.rows source.now) (by_number (integers indices.entry) (flags validity.entry) (covered validity.entry)) }
-    ensures after { state_of S.offsets S.free S.top builder.new store.new heap.new bits.new ≡ selected (state_of S.offsets S.free S.top builder.old store.old heap.old bits.old) (R.rows source.now) (by_number (integers indices.entry) (flags validity.entry) (covered validity.entry)) (answer result) }
+    ensures answer { answer result ≡ select_answer (state_with S.offsets S.free S.top builder.old memory.old) (R.rows source.now) (by_number (integers indices.entry) (flags validity.entry) (covered validity.entry)) }
+    ensures after { state_with S.offsets S.free S.top builder.new memory.new ≡ selected (state_with S.offsets S.free S.top builder.old memory.old) (R.rows source.now) (by_number (integers indices.entry) (flags validity.entry) (covered validity.entry)) (answer result) }
+    ensures same { SameMemory memory.old memory.new }
     ensures agree { SelectionsAgree }
 {
-    check_memory(builder, store, heap, bits)?;
+    memory.check_memory(builder)?;
     check_indices(source.len() as u64, indices, validity)?;
     select(
         builder,
-        store,
-        heap,
-        bits,
+        memory,
         source,
         TakeIndices {
             indices,

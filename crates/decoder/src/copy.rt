@@ -16,7 +16,7 @@ impl Decoder for CopyDecoder<'_> {
         if n > part.len() {
             return None;
         }
-        part[0..n].copy_from_slice(self.bytes);
+        part[..n].copy_from_slice(self.bytes);
         Some(n as u64)
     }
 }

@@ -26,22 +26,16 @@ impl Decoder for HexDecoder<'_> {
     ghost means = { λ s. hex_bytes s.digits.now };
 
     fn decode(&mut self, part: &mut [u8]) -> Option<u64> {
-        let n = self.digits.len() / 2;
-        if self.digits.len() % 2 == 1 {
+        let (pairs, rest) = self.digits.as_chunks::<2>();
+        if !rest.is_empty() || pairs.len() > part.len() {
             return None;
         }
-        if n > part.len() {
-            return None;
+        // written by number: what a `zip` over `iter_mut` leaves behind is not followed by the check
+        for (i, [first, second]) in pairs.iter().enumerate() {
+            let high = digit_value(*first)?;
+            let low = digit_value(*second)?;
+            part[i] = high * 16 + low;
         }
-        for i in 0..n {
-            match digit_value(self.digits[2 * i]) {
-                None => return None,
-                Some(high) => match digit_value(self.digits[2 * i + 1]) {
-                    None => return None,
-                    Some(low) => part[i] = high * 16 + low,
-                },
-            }
-        }
-        Some(n as u64)
+        Some(pairs.len() as u64)
     }
 }

@@ -241,7 +241,7 @@ module _ (g : Made) (ss : List Slot) (w : ℕ) (m : State) (f : Follows g ss w m
         let xs = unwrap_or means [] in
         let long = cut_length 0 (prefix_sums 0 zs) (flags mask) xs (prefix_length 0 zs ∙ b.counts) in
         let size = bytes_cut 0 zs (flags mask) xs b.counts (omega (arith, t.all, t.long)) in
-        let r = rows_fit m count slack zs mask limits b t.all in
+        let r = rows_fit m count slack zs mask limits m.heap b t.all in
         let put : length (put_bytes m.heap m.used (replicate (count + slack) 0)) ≡ length m.heap = simp (length-append, length-take, length-drop, length-replicate) (omega (arith, b.heap)) in
         record { entries = omega (arith, r.entries, b.counts); rows = omega (arith, r.rows, b.counts); heap = omega (arith, b.heap, t.all); left = omega (arith, r.left); below = omega (arith, r.below) }
 

@@ -1,5 +1,5 @@
 -- What a call asks of a builder, by its arguments alone; what it answers and leaves, by the same definitions as in the calls' own contracts.
-use Rattle.std.specs.Prelude.{ℕ, ◌+◌, true, false, List, [], ◌∷◌, length, replicate, ℤ, Some, None, Option}
+use Rattle.std.specs.Prelude.{ℕ, ◌+◌, true, false, List, [], ◌∷◌, length, replicate, ℤ, Option}
 use Rattle.builder.specs.Bulk.{values_checks, value_slots, checks_before, decoded_answer, decoded_slots, decoded}
 use Rattle.builder.specs.Calls.{append_answer, appended}
 use Rattle.builder.specs.States.{State}
@@ -8,13 +8,11 @@ use Rattle.compute.specs.Selections.{Selection, by_number, by_run, by_mask, star
 use Rattle.integers.specs.Slices.{integers}
 use Rattle.mask.specs.Masks.{flags, covered}
 use Rattle.mask.specs.declared.mask.Mask.{Mask}
-use Rattle.refusal.specs.Refusals.{Code, first_refusal, code_of}
+use Rattle.refusal.specs.Refusals.{Code, first_refusal}
 use Rattle.slots.specs.Rows.{Row}
 use Rattle.slots.specs.Slots.{Slot, slot}
 use Rattle.history.specs.declared.call.Call.{Call}
 use Rattle.history.specs.declared.call.Call.TheVariants.{AppendValue, AppendNValues, PushNulls, AppendValues, AppendDecoded, Take, GatherSlices, Filter}
-use Rattle.history.specs.declared.call.Outcome.{Outcome}
-use Rattle.history.specs.declared.call.Outcome.TheVariants.{Accepted, Refused}
 
 -- one value; n equal values; n nulls; bytes with ends and a mask; a byte count, a slack, lengths, a mask and what a decoder means; a selection from rows
 pub data Request : Type 0 where
@@ -62,7 +60,3 @@ request_after m (nulls n) answer = appended m answer (replicate n (slot false []
 request_after m (values bs ends mask) answer = appended m answer (value_slots bs ends mask)
 request_after m (decoding count slack lengths mask means) answer = decoded m (first_refusal (checks_before m count slack lengths mask)) answer (count + slack) (decoded_slots means lengths mask)
 request_after m (select rows s) answer = selected m rows s answer
-
-abbrev pub outcome_code : Outcome → Option Code
-outcome_code Accepted = None
-outcome_code (Refused e) = Some (code_of e)

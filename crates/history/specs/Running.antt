@@ -1,17 +1,21 @@
 -- What a run over places for outcomes leaves.
-use Rattle.std.specs.Prelude.{◌≡◌, ℕ, min, List, map, length, take, drop, Option}
+use Rattle.std.specs.Prelude.{◌≡◌, ℕ, min, List, map, length, take, drop, Option, Result}
 use Rattle.builder.specs.Finishing.{record_of}
 use Rattle.builder.specs.States.{State}
 use Rattle.builder.specs.declared.finished.Finished.{Finished}
-use Rattle.refusal.specs.Refusals.{Code}
-use Rattle.history.specs.Requests.{Request, outcome_code}
+use Rattle.refusal.specs.Refusals.{Code, answer}
+use Rattle.refusal.specs.declared.Refusal.{Refusal}
+use Rattle.history.specs.Requests.{Request}
 use Rattle.history.specs.Runs.{run_of, answers_of}
-use Rattle.history.specs.declared.call.Outcome.{Outcome}
 use Rattle.history.specs.declared.runner.Ran.{Ran}
+
+-- what came of a call, as the code tells it: accepted, or refused
+abbrev pub Outcome : Type 0
+Outcome = Result (Unit {0}) Refusal
 
 -- the first n places hold these answers, and the others are as they were
 pub record Carried (n : ℕ) (answers : List (Option Code)) (before after : List Outcome) : Type 0 where
-  pub kept : map outcome_code (take n after) ≡ answers
+  pub kept : map answer (take n after) ≡ answers
   pub others : drop n after ≡ drop n before
 
 -- the record of a builder that stands so

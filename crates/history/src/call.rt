@@ -47,8 +47,4 @@ pub enum Call<'a, R, D> {
 }
 
 // What came of a call.
-#[derive(Clone, Copy)]
-pub enum Outcome {
-    Accepted,
-    Refused(Refusal),
-}
+pub type Outcome = Result<(), Refusal>;

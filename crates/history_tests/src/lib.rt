@@ -19,14 +19,20 @@ mod tests {
     use refusal::Refusal;
     use rows::repeat::RepeatedRow;
     use rows::source::RowSource;
+    use slots::dtype::DType;
     use std::process::Abort;
     use std::test::Fail;
+
+    const NULLABLE_TEXT: DType = DType {
+        utf8: true,
+        nullable: true,
+    };
 
     // The number and the entry of an outcome, both 0 where the call was accepted.
     fn told(outcome: Outcome) -> (u8, u64) {
         match outcome {
-            Outcome::Accepted => (0, 0),
-            Outcome::Refused(refusal) => (refusal.number(), refusal.entry()),
+            Ok(()) => (0, 0),
+            Err(refusal) => (refusal.number(), refusal.entry()),
         }
     }
 
@@ -37,9 +43,9 @@ mod tests {
         bits: &mut [u8],
         call: &Call<'_, R, CopyDecoder<'_>>,
     ) -> Result<((u8, u64), Finished), Refusal> {
-        let mut outcomes = [Outcome::Refused(Refusal::OtherMemory)];
+        let mut outcomes = [Err(Refusal::OtherMemory)];
         let calls = std::slice::from_ref(call);
-        let ran = run_history(true, true, store, heap, bits, calls, &mut outcomes)?;
+        let ran = run_history(NULLABLE_TEXT, store, heap, bits, calls, &mut outcomes)?;
         Ok((told(outcomes[0]), ran.finished))
     }
 
@@ -202,8 +208,7 @@ mod tests {
             IntegerSlice::I32(&k.offsets),
             &k.heap,
             Some(validity),
-            true,
-            true,
+            NULLABLE_TEXT,
         ) {
             Ok(()) => select_from(&rt, &view),
             Err(_) => Err(Fail::new("not opened")),
@@ -258,10 +263,9 @@ mod tests {
             },
             Call::AppendValue { value: b"" },
         ];
-        let mut outcomes = [Outcome::Refused(Refusal::OtherMemory); 7];
+        let mut outcomes = [Err(Refusal::OtherMemory); 7];
         let Ok(ran) = run_history(
-            true,
-            true,
+            NULLABLE_TEXT,
             &mut store,
             &mut heap,
             &mut bits,

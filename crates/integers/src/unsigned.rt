@@ -12,12 +12,12 @@ pub enum UnsignedSlice<'a> {
     U64(&'a [u64]),
 }
 
-impl<'a> UnsignedSlice<'a> {
-    // The same slice as one of the eight kinds.
-    pub fn widen(self) -> IntegerSlice<'a>
-        ensures { result ≡ widened self.entry }
-    {
-        match self {
+// The same slice as one of the eight kinds.
+impl<'a> From<UnsignedSlice<'a>> for IntegerSlice<'a> {
+    ghost from_gives = { λ slice widened_slice. widened_slice ≡ widened slice };
+
+    fn from(slice: UnsignedSlice<'a>) -> IntegerSlice<'a> {
+        match slice {
             UnsignedSlice::U8(s) => IntegerSlice::U8(s),
             UnsignedSlice::U16(s) => IntegerSlice::U16(s),
             UnsignedSlice::U32(s) => IntegerSlice::U32(s),

@@ -105,7 +105,7 @@ mod tests {
         assert_eq!(rt; IntegerSlice::U64(&[u64::MAX]).total(), Some(u64::MAX));
         assert_eq!(rt; IntegerSlice::U64(&[u64::MAX, 1]).total(), None);
         assert_eq!(rt;
-            UnsignedSlice::U16(&[1, 65_535]).widen().total(),
+            IntegerSlice::from(UnsignedSlice::U16(&[1, 65_535])).total(),
             Some(65_536)
         );
     }

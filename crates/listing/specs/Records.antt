@@ -1,10 +1,10 @@
 -- A record of 16 bytes: byte 0 is 1 for a value and 0 for a null, byte 1 is the length, then come the bytes, then zeros.
-use Rattle.std.specs.Prelude.{ℕ, Bool, true, cond, ◌&&◌, List, [], ◌∷◌, length, take, drop, Some, None, Option, ◌==◌, nat_le, slice_index}
+use Rattle.std.specs.Prelude.{ℕ, Bool, cond, ◌&&◌, List, length, take, drop, Some, None, Option, ◌==◌, nat_le, slice_index}
+use Rattle.std.specs.List.{list_all}
 use Rattle.slots.specs.Rows.{Row, null, bytes}
 
 abbrev pub all_zero : List ℕ → Bool
-all_zero [] = true
-all_zero (b ∷ bs) = b == 0 && all_zero bs
+all_zero bs = list_all (λ b. b == 0) bs
 
 -- a value of at most 14 bytes with zeros behind them; a null has length 0
 abbrev pub field_row : ℕ → ℕ → List ℕ → Option Row

@@ -4,6 +4,7 @@ use array::tally::Tally;
 use array::view::VarBinArray;
 use builder::builder::VarBinBuilder;
 use builder::finished::{Finished, Validity};
+use builder::memory::Memory;
 use integers::slices::IntegerSlice;
 use mask::mask::Mask;
 use offsets::store::OffsetStore;
@@ -11,91 +12,61 @@ use offsets::widening::Offsets;
 use refusal::Refusal;
 use rows::row::RowRef;
 use rows::source::RowSource;
-use std::alloc::{AllocError, AllocFailed, Global};
-use std::fmt;
+use slots::dtype::DType;
+use std::alloc::{AllocError, Global};
 use std::fmt::Write;
+use thiserror::Error;
+
+// What the listing's column holds.
+const NULLABLE_TEXT: DType = DType {
+    utf8: true,
+    nullable: true,
+};
 
 // The heap bytes of 256 records.
 pub const HEAP_BYTES: usize = 3584;
 
 // Why there is no listing: a record or a row was refused, or there was no memory for it.
-#[derive(Clone, Copy)]
+#[derive(Clone, Copy, Debug, Error)]
 pub enum ListingError {
+    #[error("record {entry} refused {number}", number = .refusal.number())]
     Record { entry: u64, refusal: Refusal },
+    #[error("row {entry} refused {number}", number = .refusal.number())]
     Row { entry: u64, refusal: Refusal },
-    Memory,
-}
-
-impl From<AllocError> for ListingError {
-    fn from(_e: AllocError) -> ListingError {
-        ListingError::Memory
-    }
-}
-
-impl<T: Drop> From<AllocFailed<T>> for ListingError {
-    fn from(_e: AllocFailed<T>) -> ListingError {
-        ListingError::Memory
-    }
-}
-
-impl From<fmt::Error> for ListingError {
-    fn from(_e: fmt::Error) -> ListingError {
-        ListingError::Memory
-    }
-}
-
-impl fmt::Display for ListingError {
-    fn fmt<W: fmt::Write>(&self, f: &mut fmt::Formatter<W>) -> fmt::Result {
-        match *self {
-            ListingError::Record { entry, refusal } => {
-                let number = refusal.number();
-                write!(f, "record {entry} refused {number}")
-            }
-            ListingError::Row { entry, refusal } => {
-                let number = refusal.number();
-                write!(f, "row {entry} refused {number}")
-            }
-            ListingError::Memory => write!(f, "no memory"),
-        }
-    }
+    #[error("no memory")]
+    Memory(#[from(alloc)] AllocError),
 }
 
 // Appends the row of each record.
 fn append_records<S: OffsetStore>(
     builder: &mut VarBinBuilder,
-    store: &mut S,
-    heap: &mut [u8],
-    bits: &mut [u8],
+    memory: &mut Memory<'_, S>,
     input: &[u8],
 ) -> Result<(), ListingError> {
-    let mut entry = 0u64;
-    for record in input.chunks(RECORD_BYTES) {
-        let appended = match read_record(entry, record) {
-            Ok(Some(value)) => builder.append_value(store, heap, bits, value),
-            Ok(None) => builder.push_nulls(store, heap, bits, 1),
-            Err(refusal) => Err(refusal),
+    for (i, record) in input.chunks(RECORD_BYTES).enumerate() {
+        let entry = i as u64;
+        let refused = |refusal| ListingError::Record { entry, refusal };
+        let appended = match read_record(entry, record).map_err(refused)? {
+            Some(value) => builder.append_value(memory, value),
+            None => builder.push_nulls(memory, 1),
         };
-        match appended {
-            Ok(()) => {}
-            Err(refusal) => return Err(ListingError::Record { entry, refusal }),
-        }
-        entry = entry.saturating_add(1);
+        appended.map_err(refused)?;
     }
     Ok(())
 }
 
-// Builds a column of nullable text from the records.
+// Builds a column of nullable text from the records. Store, heap and bits come apart, as making takes them.
 fn build<S: OffsetStore>(
     store: &mut S,
     heap: &mut [u8],
     bits: &mut [u8],
     input: &[u8],
 ) -> Result<Finished, ListingError> {
-    let mut builder = match VarBinBuilder::new(true, true, store, heap, bits) {
-        Ok(builder) => builder,
-        Err(refusal) => return Err(ListingError::Record { entry: 0, refusal }),
-    };
-    match append_records(&mut builder, store, heap, bits, input) {
+    let mut builder = VarBinBuilder::new(NULLABLE_TEXT, store, heap, bits).map_err(
+        |refusal| ListingError::Record { entry: 0, refusal },
+    )?;
+    let mut memory = Memory { store, heap, bits };
+    match append_records(&mut builder, &mut memory, input) {
         Ok(()) => Ok(builder.finish()),
         Err(error) => {
             let _ = builder.discard();
@@ -106,16 +77,14 @@ fn build<S: OffsetStore>(
 
 fn write_row(text: &mut String, i: u32, row: RowRef<'_>) -> Result<(), ListingError> {
     match row {
-        RowRef::Absent => {}
-        RowRef::Null => write!(text, "{i} null\n")?,
-        RowRef::Bytes(bytes) => {
+        None => writeln!(text, "{i} null")?,
+        Some(bytes) => {
             write!(text, "{i} value")?;
             if !bytes.is_empty() {
                 text.push(' ')?;
             }
             for byte in bytes {
-                let b = *byte;
-                write!(text, "{b:02x}")?;
+                write!(text, "{byte:02x}")?;
             }
             text.push('\n')?;
         }
@@ -138,12 +107,15 @@ fn write_listing<R: RowSource>(
         complete,
     } = tally;
     let mut text = String::new(memory);
-    write!(
+    writeln!(
         text,
-        "rows {rows} valid {valid} bytes {bytes} longest {longest} complete {complete} width {width}\n"
+        "rows {rows} valid {valid} bytes {bytes} longest {longest} complete {complete} width {width}"
     )?;
+    // by number, as a source tells its rows
     for i in 0..source.len() {
-        write_row(&mut text, i, source.row(i as u64))?;
+        if let Some(row) = source.row(i as u64) {
+            write_row(&mut text, i, row)?;
+        }
     }
     Ok(text)
 }
@@ -157,18 +129,16 @@ fn list_column<'a>(
     width: u32,
 ) -> Result<String, ListingError> {
     let mut view = VarBinArray::empty();
-    match view.open(offsets, heap, Some(validity), true, true) {
-        Ok(()) => {}
-        Err(refusal) => return Err(ListingError::Row {
+    view.open(offsets, heap, Some(validity), NULLABLE_TEXT)
+        .map_err(|refusal| ListingError::Row {
             entry: refusal.entry(),
             refusal,
-        }),
-    }
+        })?;
     let tally = view.tally();
     write_listing(memory, &view, tally, width)
 }
 
-// The listing of the records in `input`.
+// The listing of the records in `input`, over memory of a fixed size that is lent to the store and the builder.
 pub fn list_fields(memory: Global, input: &[u8]) -> Result<String, ListingError> {
     let mut narrow = [0i32; 257];
     let mut wide = [0i64; 257];
@@ -182,8 +152,7 @@ pub fn list_fields(memory: Global, input: &[u8]) -> Result<String, ListingError>
 // The validity of a finished column, over its bit bytes.
 fn validity_mask<'a>(finished: Finished, bytes: &'a [u8]) -> Mask<'a> {
     match finished.validity {
-        Validity::NonNullable => Mask::new_true(finished.rows),
-        Validity::AllValid => Mask::new_true(finished.rows),
+        Validity::NonNullable | Validity::AllValid => Mask::new_true(finished.rows),
         Validity::AllInvalid => Mask::new_false(finished.rows),
         Validity::Bits => Mask::Values {
             len: finished.rows,
@@ -203,12 +172,9 @@ fn list_store<'a>(
     let width = store.width();
     let validity = validity_mask(finished, bits);
     let used = (heap.len() as u64).min(finished.bytes) as usize;
-    let heap = &heap[0..used];
-    if let Some(offsets) = store.as_narrow() {
-        return list_column(memory, IntegerSlice::I32(offsets), heap, validity, width);
-    }
-    match store.as_wide() {
-        Some(offsets) => list_column(memory, IntegerSlice::I64(offsets), heap, validity, width),
-        None => list_column(memory, IntegerSlice::I32(&[]), heap, validity, width),
-    }
+    let heap = &heap[..used];
+    let narrow = store.as_narrow().map(IntegerSlice::I32);
+    let wide = store.as_wide().map(IntegerSlice::I64);
+    let offsets = narrow.or(wide).unwrap_or(IntegerSlice::I32(&[]));
+    list_column(memory, offsets, heap, validity, width)
 }

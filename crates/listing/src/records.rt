@@ -15,12 +15,7 @@ pub const MOST_VALUE_BYTES: u8 = 14;
 fn all_zero(bytes: &[u8]) -> bool
     ensures { result ≡ all_zero bytes.now }
 {
-    for b in bytes {
-        if *b != 0 {
-            return false;
-        }
-    }
-    true
+    bytes.iter().all(|b| *b == 0)
 }
 
 // The row of record `entry`: its bytes, or none for a null; refused where it is short or malformed.

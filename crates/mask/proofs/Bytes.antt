@@ -1,29 +1,19 @@
 -- Laws of one byte. What the code computes is compared with the meaning by a test at each of the 256 bytes.
-use Rattle.std.proofs.Common.{◌≡◌, ℕ, zero, suc, ◌+◌, ◌-◌, ◌*◌, ◌/◌, ◌%◌, ◌^◌, ◌<◌, ◌≤◌, Bool, true, false, cond, not, ◌&&◌, ◌||◌, eqb, ltb, leb, map, sym, refl, ap, ◌∙◌, ⊎_elim, add-zero, add_assoc, mul_assoc, arith}
-use native.Mathlib.Nat.{mul-add-mod_self_right, zero-div}
+use Rattle.std.proofs.Common.{◌≡◌, ℕ, ◌+◌, ◌-◌, ◌*◌, ◌/◌, ◌%◌, ◌^◌, ◌<◌, ◌≤◌, Bool, true, false, cond, ◌&&◌, eqb, leb, map, sym, refl, ap, ◌∙◌, ⊎_elim, add-zero, add_assoc, arith}
 use lib.Bits.{bit_and, bit_or}
-use lib.Count.{ones, ones_in, count_trailing_zeros}
+use lib.Count.{ones, ones_in}
 use Rattle.std.specs.List.{range_with_len}
-use Rattle.std.proofs.lemmas.Nat.{pow_pos, pow-add, shr-shr, shr_split, shr_high, field_of, mod_below, mul-add-lt}
-use Rattle.std.proofs.lemmas.Bool.{eqb-true, ltb-true, le-leb, lt-leb, eq-eqb, ne_eqb, cases_eq, cases_lt, cases_order, and_parts}
-use Rattle.std.proofs.lemmas.Bool.Decides.{nat_tests}
+use Rattle.std.proofs.lemmas.Nat.{pow_pos, pow-add, shr_split, mod_below, mul-add-lt}
+use Rattle.std.proofs.lemmas.Nat.Bits.{bit_at-zero, bit_at_cat_high, bit_at_cat_low}
+use Rattle.std.proofs.lemmas.Bool.{agree_below, agree_below_at, eqb-true, le-leb, lt-leb, eq-eqb, ne_eqb, cases_lt, cases_order}
 use Rattle.mask.specs.Bits.{bit_of, with_bit}
 use Rattle.mask.specs.Masks.{set_count}
 
--- a test at each number below n
-abbrev every : ℕ → (ℕ → Bool) → Bool
-every zero f = true
-every (suc n) f = f n && every n f
-
-every_at : (n : ℕ) (f : ℕ → Bool) → every n f ≡ true → (k : ℕ) → k < n → f k ≡ true
-every_at zero f t k h = absurd (omega arith)
-every_at (suc n) f t k h =
-    let both = and_parts (f n) (every n f) t in
-    ⊎_elim (λ (e : k ≡ n). ap f e ∙ both.0) (λ (ne : k ≡ n → ⊥). every_at n f both.1 k (omega arith)) (cases_eq k n)
-
 -- two numbers made from a byte and a place are equal where a test finds them equal at each byte and each place below n
-same_at : (n : ℕ) (x y : ℕ → ℕ → ℕ) → every 256 (λ b. every n (λ j. eqb (x b j) (y b j))) ≡ true → (b j : ℕ) → b < 256 → j < n → x b j ≡ y b j
-same_at n x y t b j h g = eqb-true _ _ (every_at n (λ j. eqb (x b j) (y b j)) (every_at 256 (λ b. every n (λ j. eqb (x b j) (y b j))) t b h) j g)
+same_at : (n : ℕ) (x y : ℕ → ℕ → ℕ) → agree_below (λ b. agree_below (λ j. eqb (x b j) (y b j)) (λ _. true) n) (λ _. true) 256 ≡ true → (b j : ℕ) → b < 256 → j < n → x b j ≡ y b j
+same_at n x y t b j h g =
+    let at = agree_below_at (λ b. agree_below (λ j. eqb (x b j) (y b j)) (λ _. true) n) (λ _. true) 256 b t h in
+    eqb-true _ _ (agree_below_at (λ j. eqb (x b j) (y b j)) (λ _. true) n j at g)
 
 pub or_bit : (b j : ℕ) → b < 256 → j < 8 → bit_or b (1 * 2 ^ j % 256) ≡ with_bit b j true
 or_bit = same_at 8 (λ b j. bit_or b (1 * 2 ^ j % 256)) (λ b j. with_bit b j true) refl
@@ -47,20 +37,10 @@ ones_low = same_at 9 (λ b j. ones (b % 2 ^ j)) (λ b j. set_count (map (bit_of 
 -- ---- the bits of hi * 2 ^ k + lo, where lo is below 2 ^ k
 
 bit_high : (hi k lo q : ℕ) → lo < 2 ^ k → k ≤ q → bit_of (hi * 2 ^ k + lo) q ≡ bit_of hi (q - k)
-bit_high hi k lo q h g =
-    let e : k + (q - k) ≡ q = omega arith in
-    let shifted : (hi * 2 ^ k + lo) / 2 ^ q ≡ hi / 2 ^ (q - k) =
-    ap (λ m. (hi * 2 ^ k + lo) / 2 ^ m) (sym e) ∙ sym (shr-shr (hi * 2 ^ k + lo) k (q - k)) ∙ ap (λ n. n / 2 ^ (q - k)) (shr_high hi k lo h) in
-    ap (λ n. eqb (n % 2) 1) shifted
+bit_high hi k lo q h g = ap (λ n. eqb n 1) (bit_at_cat_high hi k lo q h g)
 
 bit_low : (hi k lo q : ℕ) → q < k → bit_of (hi * 2 ^ k + lo) q ≡ bit_of lo q
-bit_low hi k lo q g =
-    let e : (k - (1 + q)) + (1 + q) ≡ k = omega arith in
-    let split : hi * 2 ^ k ≡ hi * 2 ^ (k - (1 + q)) * 2 ^ (1 + q) =
-    ap (λ m. hi * 2 ^ m) (sym e) ∙ ap (λ n. hi * n) (pow-add 2 (k - (1 + q)) (1 + q)) ∙ sym (mul_assoc hi (2 ^ (k - (1 + q))) (2 ^ (1 + q))) in
-    let rest : (hi * 2 ^ k + lo) % 2 ^ (1 + q) ≡ lo % 2 ^ (1 + q) =
-    ap (λ n. (n + lo) % 2 ^ (1 + q)) split ∙ mul-add-mod_self_right (hi * 2 ^ (k - (1 + q))) (2 ^ (1 + q)) lo in
-    ap (λ n. eqb n 1) (sym (field_of (hi * 2 ^ k + lo) 1 q) ∙ ap (λ n. n / 2 ^ q) rest ∙ field_of lo 1 q)
+bit_low hi k lo q g = ap (λ n. eqb n 1) (bit_at_cat_low hi k lo q g)
 
 -- a bit of b, read in its upper or its lower part
 bit_upper : (b k q : ℕ) → k ≤ q → bit_of b q ≡ bit_of (b / 2 ^ k) (q - k)
@@ -70,7 +50,7 @@ bit_lower : (b k q : ℕ) → q < k → bit_of b q ≡ bit_of (b % 2 ^ k) q
 bit_lower b k q g = ap (λ n. bit_of n q) (sym (shr_split b k)) ∙ bit_low (b / 2 ^ k) k (b % 2 ^ k) q g
 
 pub no_bit : (q : ℕ) → bit_of 0 q ≡ false
-no_bit q = ap (λ n. eqb (n % 2) 1) (zero-div (2 ^ q))
+no_bit q = ap (λ n. eqb n 1) (bit_at-zero q)
 
 abbrev one : Bool → ℕ
 one v = cond v 1 0
@@ -122,37 +102,3 @@ from_bit b r q h g =
     (λ (l : q < r). bit_low (b / 2 ^ r) r 0 q l ∙ no_bit q ∙ ap (λ t. t && bit_of b q) (sym (lt-leb r q l)))
     (λ (l : r ≤ q). bit_high (b / 2 ^ r) r 0 q (pow_pos r) l ∙ sym (bit_upper b r q l) ∙ ap (λ t. t && bit_of b q) (sym (le-leb r q l)))
     (cases_lt q r)
-
--- ---- the lowest set bit of a byte
-
-pub record Lowest (b : ℕ) : Type 0 where
-  pub small : count_trailing_zeros 8 b < 8
-  pub set : bit_of b (count_trailing_zeros 8 b) ≡ true
-  pub below : (q : ℕ) → q < count_trailing_zeros 8 b → bit_of b q ≡ false
-
--- a byte that is not 0 has its lowest set bit at z
-abbrev lowest_right : ℕ → ℕ → Bool
-lowest_right b z = eqb b 0 || (ltb z 8 && (bit_of b z && every 8 (λ q. leb z q || not (bit_of b q))))
-
-every_lowest : every 256 (λ b. lowest_right b (count_trailing_zeros 8 b)) ≡ true
-unfolding count_trailing_zeros
-every_lowest = refl
-
-pub lowest : (b : ℕ) → 0 < b → b < 256 → Lowest b
-lowest b p h =
-    let z = count_trailing_zeros 8 b in
-    let tests = nonzero _ (every_at 256 (λ b. lowest_right b (count_trailing_zeros 8 b)) every_lowest b h) in
-    let first = and_parts (ltb z 8) _ tests in
-    let others = and_parts (bit_of b z) _ first.1 in
-    let small = ltb-true z 8 first.0 in
-    record {
-      small = small;
-      set = others.0;
-      below = λ q l. unset q l (every_at 8 (λ q. leb z q || not (bit_of b q)) others.1 q (omega arith));
-    }
-  where
-    nonzero : (x : Bool) → (eqb b 0 || x) ≡ true → x ≡ true
-    nonzero x t = grind (arith, nat_tests)
-
-    unset : (q : ℕ) → q < count_trailing_zeros 8 b → (leb (count_trailing_zeros 8 b) q || not (bit_of b q)) ≡ true → bit_of b q ≡ false
-    unset q l t = grind (arith, nat_tests)

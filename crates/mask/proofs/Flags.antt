@@ -1,5 +1,5 @@
 -- Lists of flags: the next set flag, how many are set, the bits of bytes as flags, and the bits after a write.
-use Rattle.std.proofs.Common.{◌≡◌, ℕ, zero, suc, ◌+◌, ◌-◌, ◌*◌, ◌/◌, ◌%◌, ◌^◌, ◌<◌, ◌≤◌, min, Bool, true, false, cond, ◌&&◌, eqb, ltb, leb, List, [], ◌∷◌, ◌++◌, map, length, get_or, drop, replicate, Some, None, Option, sym, refl, ap, ◌∙◌, subst, ⊎_elim, add-zero, add-one, arith}
+use Rattle.std.proofs.Common.{◌≡◌, ℕ, zero, suc, ◌+◌, ◌-◌, ◌*◌, ◌/◌, ◌%◌, ◌^◌, ◌<◌, ◌≤◌, Bool, true, false, cond, ◌&&◌, eqb, ltb, leb, List, [], ◌∷◌, ◌++◌, map, length, get_or, drop, replicate, Some, None, Option, sym, refl, ap, ◌∙◌, ⊎_elim, add-zero, add-one, arith}
 use lib.Count.{ones}
 use Rattle.std.specs.List.{range_with_len}
 use Rattle.std.proofs.lemmas.List.FromFn.{length-map-range_with_len, get_or-map-range_with_len, map-range_with_len_more}
@@ -46,10 +46,6 @@ from_drop p fs (Some q) (ge, inside, is_set, before) =
 
 next_is : (p : ℕ) (fs : List Bool) → NextAt p fs (next_set p fs)
 next_is p fs = from_drop p fs (next_set p fs) (first_is p (drop p fs))
-
--- what an answer of next_set tells
-pub next_at : (p : ℕ) (fs : List Bool) (r : Option ℕ) → next_set p fs ≡ r → NextAt p fs r
-next_at p fs r e = subst (NextAt p fs) e (next_is p fs)
 
 -- there is only one such answer
 one_next : (p : ℕ) (fs : List Bool) (r s : Option ℕ) → NextAt p fs r → NextAt p fs s → r ≡ s
@@ -144,11 +140,6 @@ count_in_byte bs i (suc r) h =
 pub count_byte : (bs : List ℕ) (i r : ℕ) → get_or bs i 0 < 256 → r ≤ 8 → set_count (bit_flags (8 * i + r) bs) ≡ set_count (bit_flags (8 * i) bs) + ones (get_or bs i 0 % 2 ^ r)
 count_byte bs i r b h = count_in_byte bs i r h ∙ ap (λ m. set_count (bit_flags (8 * i) bs) + m) (sym (ones_low (get_or bs i 0) r b (omega arith)))
 
--- of the first n bits, those before byte i and then those before the next byte, of which byte i has r
-pub count_step : (bs : List ℕ) (n i r : ℕ) → get_or bs i 0 < 256 → r ≤ 8 → min n (8 * i) ≡ 8 * i → min n (8 * (i + 1)) ≡ 8 * i + r
-    → set_count (bit_flags (min n (8 * (i + 1))) bs) ≡ set_count (bit_flags (min n (8 * i)) bs) + ones (get_or bs i 0 % 2 ^ r)
-count_step bs n i r b h e f = ap (λ m. set_count (bit_flags m bs)) f ∙ count_byte bs i r b h ∙ ap (λ m. set_count (bit_flags m bs) + ones (get_or bs i 0 % 2 ^ r)) (sym e)
-
 -- bits past the last byte add nothing
 pub count_past : (bs : List ℕ) (m d : ℕ) → 8 * length bs ≤ m → set_count (bit_flags (m + d) bs) ≡ set_count (bit_flags m bs)
 count_past bs m zero h = ap (λ n. set_count (bit_flags n bs)) (add-zero m)
@@ -208,6 +199,11 @@ bit_puts (v ∷ vs) bs i k =
   where
     place : (d : ℕ) → k - i ≡ d → get_or (v ∷ vs) (k - i) false ≡ get_or (v ∷ vs) d false
     place d e = ap (λ n. get_or (v ∷ vs) n false) e
+
+-- one value at the bits from i up to `to`: the first of them, and then the others
+pub fill_more : (bs : List ℕ) (i to : ℕ) (v : Bool) → i < to → put_bits bs i (replicate (to - i) v) ≡ put_bits (put_bit bs i v) (i + 1) (replicate (to - (i + 1)) v)
+unfolding put_bits
+fill_more bs i to v h = let more : to - i ≡ suc (to - (i + 1)) = omega arith in ap (λ m. put_bits bs i (replicate m v)) more
 
 -- where one value is written to n bits
 pub bit_fill : (bs : List ℕ) (i n : ℕ) (v : Bool) (k : ℕ) → bit_at (put_bits bs i (replicate n v)) k ≡ cond (leb i k && (ltb k (i + n) && ltb k (8 * length bs))) v (bit_at bs k)

@@ -1,13 +1,15 @@
 -- The search for the next set bit, byte by byte.
-use Rattle.std.proofs.Common.{◌≡◌, ℕ, ◌+◌, ◌-◌, ◌*◌, ◌/◌, ◌%◌, ◌^◌, ◌<◌, ◌≤◌, Bool, true, false, ◌&&◌, leb, ◌⊎◌, List, length, get_or, Some, None, sym, ap, ◌∙◌, ⊎_elim, arith}
+use Rattle.std.proofs.Common.{◌≡◌, ℕ, ◌+◌, ◌-◌, ◌*◌, ◌%◌, ◌^◌, ◌<◌, ◌≤◌, Bool, true, false, ◌&&◌, eqb, leb, ltb, w8, ◌⊎◌, inl, List, length, get_or, Some, None, sym, ap, ◌∙◌, ⊎_elim, arith}
 use lib.Bits.{bit_and}
 use lib.Count.{count_trailing_zeros}
 use Rattle.std.proofs.lemmas.Nat.{and_le_l}
-use Rattle.std.proofs.lemmas.Bool.{and_parts, cases_lt, le-leb, leb-true, lt-leb}
+use Rattle.std.proofs.lemmas.Nat.Bits.{bit_at-trailing_zeros}
+use Rattle.std.specs.Bool.{then_some}
+use Rattle.std.proofs.lemmas.Bool.{and_parts, cases_lt, le-leb, le-ltb, leb-true, lt-leb, lt-ltb}
 use Rattle.std.proofs.lemmas.Bool.Decides.{nat_tests}
 use Rattle.mask.specs.Bits.{bit_of, bit_at}
 use Rattle.mask.specs.Masks.{bit_flags, next_set}
-use Rattle.mask.proofs.Bytes.{no_bit, from_bit, lowest}
+use Rattle.mask.proofs.Bytes.{no_bit, from_bit}
 use Rattle.mask.proofs.Flags.{next_by, flag_at, flag_past, length_bits, bit_of_byte, bit_past}
 
 -- the bits from a place on, those before it unset
@@ -26,14 +28,19 @@ pub record Seek (f : ℕ → Bool) (i left : ℕ) : Type 0 where
   pub here : (q : ℕ) → q < 8 → bit_of left q ≡ f (8 * i + q)
   pub byte : left < 256
 
-pub start : (bs : List ℕ) (from : ℕ) → get_or bs (from / 8) 0 < 256 → Seek (bit_from bs from) (from / 8) (bit_and (get_or bs (from / 8) 0) (255 * 2 ^ (from % 8) % 256))
-start bs from b = record {
-  before = λ k lt. before_from bs from k (omega arith);
-  here = λ q h. from_bit (get_or bs (from / 8) 0) (from % 8) q b (omega arith) ∙ ap (λ t. t && bit_of (get_or bs (from / 8) 0) q) (tests q) ∙ ap (λ t. leb from (8 * (from / 8) + q) && t) (sym (bit_of_byte bs (from / 8) q h));
-  byte = let l = and_le_l (get_or bs (from / 8) 0) (255 * 2 ^ (from % 8) % 256) in omega arith;
+-- what the code keeps of byte i, the bits before `from` cleared
+pub seek : (bs : List ℕ) (from i b r : ℕ) → ((k : ℕ) → k < 8 * i → bit_from bs from k ≡ false) → from < 8 * (i + 1) → r ≡ from - 8 * i → b ≡ get_or bs i 0 → b < 256 → Seek (bit_from bs from) i (bit_and b (255 * 2 ^ r % 256))
+seek bs from i b r before near e at fits = record {
+  before = before;
+  here = λ q h.
+      from_bit b r q fits (omega arith)
+      ∙ ap (λ t. t && bit_of b q) (tests q)
+      ∙ ap (λ n. leb from (8 * i + q) && bit_of n q) at
+      ∙ ap (λ t. leb from (8 * i + q) && t) (sym (bit_of_byte bs i q h));
+  byte = let l = and_le_l b (255 * 2 ^ r % 256) in omega arith;
 }
   where
-    tests : (q : ℕ) → leb (from % 8) q ≡ leb from (8 * (from / 8) + q)
+    tests : (q : ℕ) → leb r q ≡ leb from (8 * i + q)
     tests q = grind (arith, nat_tests)
 
 -- where the lowest bits of the byte are unset, so is f up to there
@@ -48,14 +55,6 @@ unset_upto f i left top s t unset k lt =
 pub none_here : (f : ℕ → Bool) (i left : ℕ) → Seek f i left → left ≡ 0 → (k : ℕ) → k < 8 * (i + 1) → f k ≡ false
 none_here f i left s z k lt = unset_upto f i left 8 s (omega arith) (λ q h. ap (λ b. bit_of b q) z ∙ no_bit q) k (omega arith)
 
--- to the next byte
-pub on : (bs : List ℕ) (from i left : ℕ) → from < 8 * (i + 1) → Seek (bit_from bs from) i left → left ≡ 0 → get_or bs (i + 1) 0 < 256 → Seek (bit_from bs from) (i + 1) (get_or bs (i + 1) 0)
-on bs from i left near s z b = record {
-  before = none_here (bit_from bs from) i left s z;
-  here = λ q h. sym (from_on bs from (8 * (i + 1) + q) (omega arith) ∙ bit_of_byte bs (i + 1) q h);
-  byte = b;
-}
-
 -- f is first set at p
 pub record Hit (f : ℕ → Bool) (p : ℕ) : Type 0 where
   pub is_set : f p ≡ true
@@ -63,15 +62,14 @@ pub record Hit (f : ℕ → Bool) (p : ℕ) : Type 0 where
 
 pub hit : (f : ℕ → Bool) (i left : ℕ) → Seek f i left → 0 < left → Hit f (8 * i + count_trailing_zeros 8 left)
 hit f i left s p =
-    let l = lowest left p s.byte in
-    let small = l.small in
+    let lowest = bit_at-trailing_zeros w8 left p s.byte in
     record {
-      is_set = sym (s.here (count_trailing_zeros 8 left) small) ∙ l.set;
-      first = unset_upto f i left (count_trailing_zeros 8 left) s (omega arith) l.below;
+      is_set = sym (s.here (count_trailing_zeros 8 left) lowest.0) ∙ ap (λ n. eqb n 1) lowest.1;
+      first = unset_upto f i left (count_trailing_zeros 8 left) s (omega (arith, lowest.0)) (λ q h. ap (λ n. eqb n 1) (lowest.2 q h));
     }
 
 -- the answers: a place below n, or none where no bit is left
-pub found : (bs : List ℕ) (from n p : ℕ) → Hit (bit_from bs from) p → p < n → Some p ≡ next_set from (bit_flags n bs)
+found : (bs : List ℕ) (from n p : ℕ) → Hit (bit_from bs from) p → p < n → Some p ≡ next_set from (bit_flags n bs)
 found bs from n p h lt =
     let both = and_parts (leb from p) (bit_at bs p) h.is_set in
     let inside = length_bits n bs in
@@ -87,3 +85,11 @@ not_found bs from n top unset end = next_by from (bit_flags n bs) None (λ k ge.
   where
     at : (k : ℕ) → from ≤ k → k < n → bit_at bs k ≡ false
     at k ge l = ⊎_elim (λ (t : k < top). sym (from_on bs from k ge) ∙ unset k t) (λ (t : top ≤ k). bit_past bs k (⊎_elim (λ (e : n ≤ top). absurd (omega arith)) (λ (e : 8 * length bs ≤ top). omega arith) end)) (cases_lt k top)
+
+-- the answer at the first place that is set: it counts below n only
+pub place : (bs : List ℕ) (from n p : ℕ) → Hit (bit_from bs from) p → then_some (ltb p n) p ≡ next_set from (bit_flags n bs)
+place bs from n p h =
+    ⊎_elim
+    (λ (l : p < n). ap (λ t. then_some t p) (lt-ltb p n l) ∙ found bs from n p h l)
+    (λ (l : n ≤ p). ap (λ t. then_some t p) (le-ltb p n l) ∙ not_found bs from n p h.first (inl l))
+    (cases_lt p n)

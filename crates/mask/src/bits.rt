@@ -14,6 +14,7 @@ pub fn bit(bytes: &[u8], i: u64) -> bool
 }
 
 // Byte b with its bit j made v.
+#[tactic(auto, using(crate::proofs::Bytes::or_bit, crate::proofs::Bytes::and_bit))]
 fn with_bit(b: u8, j: u32, v: bool) -> u8
     requires { j < 8 }
     ensures { result ≡ with_bit b j v }
@@ -22,23 +23,25 @@ fn with_bit(b: u8, j: u32, v: bool) -> u8
 }
 
 // Makes bit i v; every other bit stays.
+#[tactic(auto, using(crate::proofs::Flags::bit_put))]
 pub fn put_bit(bytes: &mut [u8], i: u64, v: bool)
     ensures after { bytes.new ≡ put_bit bytes.old i v }
     ensures each { (k : ℕ) → bit_at bytes.new k ≡ (if nat_eq k i && nat_lt k (8 * length bytes.old) then v else bit_at bytes.old k) }
 {
-    let at = i / 8;
-    if at < bytes.len() as u64 {
-        let at = at as usize;
+    let at = (i / 8) as usize;
+    if at < bytes.len() {
         bytes[at] = with_bit(bytes[at], (i % 8) as u32, v);
     }
 }
 
 // Makes the n bits from `from` on v; every other bit stays.
+#[tactic(auto, using(crate::proofs::Flags::fill_more, crate::proofs::Flags::bit_fill), unfolding(crate::specs::Bits::put_bits))]
 pub fn put_bits(bytes: &mut [u8], from: u64, n: u64, v: bool)
     requires { from + n < 2 ^ 64 }
     ensures after { bytes.new ≡ put_bits bytes.old from (replicate n v) }
     ensures each { (k : ℕ) → bit_at bytes.new k ≡ (if nat_le from k && (nat_lt k (from + n) && nat_lt k (8 * length bytes.old)) then v else bit_at bytes.old k) }
 {
+    // by bit number, since bits are no elements of the slice
     for i in from..from + n {
         put_bit(bytes, i, v);
     }
@@ -48,14 +51,13 @@ pub fn put_bits(bytes: &mut [u8], from: u64, n: u64, v: bool)
 pub fn count_ones(bytes: &[u8], n: u64) -> u64
     ensures { result ≡ set_count (bit_flags n bytes.now) }
 {
-    let whole = n / 8;
+    let whole = (n / 8) as usize;
     let mut total = 0;
-    for (i, byte) in bytes.iter().enumerate() {
-        if (i as u64) < whole {
-            total += byte.count_ones() as u64;
-        } else if i as u64 == whole {
-            total += (byte & (1u8 << (n % 8)) - 1).count_ones() as u64;
-        }
+    for byte in bytes.iter().take(whole) {
+        total += byte.count_ones() as u64;
+    }
+    if let Some(byte) = bytes.get(whole) {
+        total += (byte & (1u8 << (n % 8)) - 1).count_ones() as u64;
     }
     total
 }
@@ -64,21 +66,14 @@ pub fn count_ones(bytes: &[u8], n: u64) -> u64
 pub fn next_one(bytes: &[u8], from: u64, n: u64) -> Option<u64>
     ensures { result ≡ next_set from (bit_flags n bytes.now) }
 {
-    if from >= n {
-        return None;
-    }
-    let mut i = from / 8;
-    if i >= bytes.len() as u64 {
-        return None;
-    }
-    let mut byte = bytes[i as usize] & 255 << (from % 8);
-    while byte == 0 {
-        i += 1;
-        if i > (n - 1) / 8 || i >= bytes.len() as u64 {
-            return None;
+    // by byte number, which tells the bit number too; the range may end behind the bytes
+    for i in from / 8..n.div_ceil(8) {
+        // The bits before `from` do not count.
+        let byte = bytes.get(i as usize)? & 255 << from.saturating_sub(8 * i);
+        if byte != 0 {
+            let place = 8 * i + byte.trailing_zeros() as u64;
+            return (place < n).then_some(place);
         }
-        byte = bytes[i as usize];
     }
-    let place = 8 * i + byte.trailing_zeros() as u64;
-    if place < n { Some(place) } else { None }
+    None
 }

@@ -12,7 +12,7 @@ pub enum Mask<'a> {
 }
 
 impl<'a> Mask<'a> {
-    // len flags, all set.
+    // len flags, all set. Two functions in place of one with a flag, under the names that the Rust has for them.
     pub fn new_true(len: u64) -> Mask<'a>
         ensures { flags result ≡ replicate len true }
     {
@@ -29,13 +29,13 @@ impl<'a> Mask<'a> {
 
 impl Mask<'_> {
     // The number of flags.
+    #[tactic(auto, using(crate::proofs::Flags::length_bits))]
     pub fn len(self) -> u64
         ensures { result ≡ length (flags self.entry) }
     {
         match self {
-            Mask::AllTrue(n) => n,
-            Mask::AllFalse(n) => n,
-            Mask::Values { len, bytes: _ } => len,
+            Mask::AllTrue(n) | Mask::AllFalse(n) => n,
+            Mask::Values { len, .. } => len,
         }
     }
 
@@ -44,14 +44,13 @@ impl Mask<'_> {
         ensures { result ≡ covered self.entry }
     {
         match self {
-            Mask::AllTrue(_) => true,
-            Mask::AllFalse(_) => true,
-            Mask::Values { len, bytes } => len / 8 < bytes.len() as u64
-                || (len / 8 == bytes.len() as u64 && len % 8 == 0),
+            Mask::AllTrue(_) | Mask::AllFalse(_) => true,
+            Mask::Values { len, bytes } => len.div_ceil(8) <= bytes.len() as u64,
         }
     }
 
     // The flag at i: unset from the length on, and where the bytes end.
+    #[tactic(auto, using(crate::proofs::Flags::flag_at, crate::proofs::Flags::flag_past))]
     pub fn value(self, i: u64) -> bool
         ensures { result ≡ slice_index_or (flags self.entry) i false }
     {
@@ -63,6 +62,7 @@ impl Mask<'_> {
     }
 
     // How many flags are set.
+    #[tactic(auto, using(crate::proofs::Flags::count_replicate))]
     pub fn true_count(self) -> u64
         ensures { result ≡ set_count (flags self.entry) }
     {
@@ -74,6 +74,7 @@ impl Mask<'_> {
     }
 
     // The first set flag at `from` or after it.
+    #[tactic(auto, using(crate::proofs::Flags::next_replicate))]
     pub fn next_set(self, from: u64) -> Option<u64>
         ensures { result ≡ next_set from (flags self.entry) }
     {

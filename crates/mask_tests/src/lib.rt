@@ -154,9 +154,9 @@ fn expect_filled(rt: &impl Abort, from: u64, n: u64, expected: [u8; 3]) -> Resul
     bits::put_bits(&mut set, from, n, true);
     let mut cleared = [0xFF, 0xFF, 0xFF];
     bits::put_bits(&mut cleared, from, n, false);
-    for i in 0..3usize {
-        assert_eq!(rt; set[i], expected[i]);
-        assert_eq!(rt; cleared[i], !expected[i]);
+    assert_eq!(rt; set, expected);
+    for (byte, expected) in cleared.iter().zip(expected.iter()) {
+        assert_eq!(rt; *byte, !*expected);
     }
     let mut mixed = [0xA5, 0xA5, 0xA5];
     bits::put_bits(&mut mixed, from, n, true);

@@ -19,10 +19,10 @@ pub fn write_entry<T: IntegerPType>(entries: &mut [T], i: usize, offset: u64)
     requires { offset ≤ T.IntegerPType.greatest }
     ensures { map T.IntegerPType.value entries.new ≡ slice_set (map T.IntegerPType.value entries.old) i (pos offset) }
 {
-    if let Some(entry) = T::from_u64(offset) {
-        if i < entries.len() {
-            entries[i] = entry;
-        }
+    if let Some(entry) = T::from_u64(offset)
+        && i < entries.len()
+    {
+        entries[i] = entry;
     }
 }
 
@@ -30,11 +30,8 @@ pub fn write_entry<T: IntegerPType>(entries: &mut [T], i: usize, offset: u64)
 pub fn natural_part<T: IntegerPType>(entries: &[T], n: usize) -> Option<&[T]>
     ensures { HandedOut T.IntegerPType.value (held T.IntegerPType.value n entries.now) result }
 {
-    let n = n.min(entries.len());
-    for i in 0..n {
-        if entries[i].to_u64().is_none() {
-            return None;
-        }
-    }
-    Some(&entries[0..n])
+    let part = &entries[..n.min(entries.len())];
+    part.iter()
+        .all(|entry| entry.to_u64().is_some())
+        .then_some(part)
 }

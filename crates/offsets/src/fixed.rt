@@ -6,6 +6,7 @@ use crate::entry::{natural_part, read_entry, write_entry};
 use crate::store::OffsetStore;
 use ptype::native::IntegerPType;
 
+// The entries are lent and of a fixed size, so the count of used ones stands beside them.
 #[derive(Drop)]
 pub struct FixedOffsets<'a, T: IntegerPType> {
     entries: &'a mut [T],
@@ -50,23 +51,15 @@ impl<T: IntegerPType> OffsetStore for FixedOffsets<'_, T> {
     }
 
     fn get(&self, i: u64) -> Option<u64> {
-        if i < self.len() {
-            Some(read_entry(self.entries, i as usize))
-        } else {
-            None
-        }
+        (i < self.len()).then(|| read_entry(self.entries, i as usize))
     }
 
     fn push(&mut self, offset: u64) -> bool {
-        if self.used >= self.entries.len() {
+        if self.free() == 0 || offset > self.top() {
             return false;
         }
-        if offset > self.top() {
-            return false;
-        }
-        let at = self.used;
-        write_entry(self.entries, at, offset);
-        self.used = at + 1;
+        write_entry(self.entries, self.used, offset);
+        self.used += 1;
         true
     }
 }

@@ -12,7 +12,7 @@ use crate::entry::{natural_part, read_entry, write_entry};
 use crate::store::OffsetStore;
 use ptype::native::IntegerPType;
 
-// A 32-bit kind and the 64-bit kind that holds all its numbers.
+// A 32-bit kind and the 64-bit kind that holds all its numbers. One impl for each kind, as for the kinds themselves.
 pub trait NarrowPType: IntegerPType {
     type Wide: IntegerPType;
 
@@ -31,12 +31,26 @@ impl NarrowPType for u32 {
     ghost wider = { Prim.search rules };
 }
 
+// Both regions are lent and of a fixed size, so the count of used entries and the width stand beside them.
 #[derive(Drop)]
 pub struct Offsets<'a, N: NarrowPType> {
     narrow: &'a mut [N],
     wide: &'a mut [N::Wide],
     used: usize,
     widened: bool,
+}
+
+// Copies the offsets of the first n entries to a kind that can hold them.
+fn copy_entries<A: IntegerPType, B: IntegerPType>(from: &[A], n: usize, to: &mut [B])
+    requires wider { A.IntegerPType.greatest ≤ B.IntegerPType.greatest }
+    requires source { n ≤ length from.now }
+    requires room { n ≤ length to.old }
+    ensures { held B.IntegerPType.value n to.new ≡ integers_of (amounts (held A.IntegerPType.value n from.now)) }
+{
+    // written by number: what a `zip` over `iter_mut` leaves behind is not followed by the check
+    for (i, entry) in from[..n].iter().enumerate() {
+        write_entry(to, i, entry.to_u64().unwrap_or(0));
+    }
 }
 
 impl<'a, N: NarrowPType> Offsets<'a, N> {
@@ -63,10 +77,9 @@ impl<'a, N: NarrowPType> Offsets<'a, N> {
         ensures wide { length self.new.wide.now ≡ length self.old.wide.now }
         ensures used { (self.new.used ≡ self.old.used) × (self.new.widened ≡ true) }
     {
-        for i in 0..self.used {
-            let offset = self.narrow[i].to_u64().unwrap_or(0);
-            write_entry(self.wide, i, offset);
-        }
+        // named before the wide entries are lent: the check does not follow a part of one field while another field is lent
+        let narrow = &mut *self.narrow;
+        copy_entries(narrow, self.used, self.wide);
         self.widened = true;
     }
 
@@ -78,6 +91,7 @@ impl<'a, N: NarrowPType> Offsets<'a, N> {
     }
 
     // The 32-bit entries that hold the offsets: none once the store is wide, and none where one is negative, as no push makes it.
+    // It stands beside `as_wide`, since the two hand out slices of different types.
     pub fn as_narrow(&self) -> Option<&[N]>
         ensures { MatchBool self.now.widened (result ≡ None) (HandedOut N.IntegerPType.value (held N.IntegerPType.value self.now.used self.now.narrow.now) result) }
     {
@@ -128,14 +142,13 @@ impl<N: NarrowPType> OffsetStore for Offsets<'_, N> {
     }
 
     fn get(&self, i: u64) -> Option<u64> {
-        if i >= self.len() {
-            return None;
-        }
-        if self.widened {
-            Some(read_entry(self.wide, i as usize))
-        } else {
-            Some(read_entry(self.narrow, i as usize))
-        }
+        (i < self.len()).then(|| {
+            if self.widened {
+                read_entry(self.wide, i as usize)
+            } else {
+                read_entry(self.narrow, i as usize)
+            }
+        })
     }
 
     fn push(&mut self, offset: u64) -> bool
@@ -146,27 +159,18 @@ impl<N: NarrowPType> OffsetStore for Offsets<'_, N> {
         ensures same { result ≡ false → self.new ≡ self.old }
         ensures width { self.new.widened ≡ is_wide_after N.IntegerPType.greatest self.old.widened result offset }
     {
-        let at = self.used;
-        if at >= self.narrow.len() {
+        if self.free() == 0 || offset > self.top() {
             return false;
         }
-        if at >= self.wide.len() {
-            return false;
-        }
-        if offset > self.top() {
-            return false;
-        }
-        if !self.widened {
-            if offset > N::max_value_as_u64() {
-                self.widen();
-            }
+        if !self.widened && offset > N::max_value_as_u64() {
+            self.widen();
         }
         if self.widened {
-            write_entry(self.wide, at, offset);
+            write_entry(self.wide, self.used, offset);
         } else {
-            write_entry(self.narrow, at, offset);
+            write_entry(self.narrow, self.used, offset);
         }
-        self.used = at + 1;
+        self.used += 1;
         true
     }
 }

@@ -21,8 +21,8 @@ fn expect<S: OffsetStore>(
     }
     assert_eq!(rt; store.len(), held.len() as u64);
     assert_eq!(rt; store.free(), free);
-    for i in 0..held.len() {
-        assert_eq!(rt; store.get(i as u64), Some(held[i]));
+    for (i, offset) in held.iter().enumerate() {
+        assert_eq!(rt; store.get(i as u64), Some(*offset));
     }
     assert_eq!(rt; store.get(held.len() as u64), None);
     Ok(())

@@ -20,23 +20,24 @@ impl<'a, T: IntegerPType> Entries<'a, T> {
     }
 
     // The number at i: none from the length on, and none where it is negative.
+    #[tactic(auto, using(crate::proofs::Naturals::at_past))]
     pub fn get(&self, i: u64) -> Option<u64>
         ensures { result ≡ natural_at (map T.value self.now.values.now) i }
     {
-        if i < self.values.len() as u64 {
-            self.values[i as usize].to_u64()
-        } else {
-            None // past the end
-        }
+        let Some(value) = self.values.get(i as usize) else {
+            return None; // past the end
+        };
+        value.to_u64()
     }
 
     // The first entry with a set flag that is negative or not below the limit.
+    #[tactic(auto, using(crate::proofs::Steps::not_below_all))]
     pub fn first_not_below(&self, mask: Mask<'_>, limit: u64) -> Option<u64>
         ensures { result ≡ first_not_below limit 0 (flags mask.entry) (map T.value self.now.values.now) }
     {
-        for i in 0..self.values.len() {
+        for (i, value) in self.values.iter().enumerate() {
             if mask.value(i as u64) {
-                match self.values[i].to_u64() {
+                match value.to_u64() {
                     Some(n) => {
                         if n >= limit {
                             return Some(i as u64);
@@ -50,12 +51,13 @@ impl<'a, T: IntegerPType> Entries<'a, T> {
     }
 
     // The first entry that is negative, falls below the one before it (below `low` for the first), or passes the limit.
+    #[tactic(auto, using(crate::proofs::Steps::fall_all))]
     pub fn first_fall(&self, low: u64, limit: u64) -> Option<u64>
         ensures { result ≡ first_fall limit low 0 (map T.value self.now.values.now) }
     {
         let mut last = low;
-        for i in 0..self.values.len() {
-            match self.values[i].to_u64() {
+        for (i, value) in self.values.iter().enumerate() {
+            match value.to_u64() {
                 Some(n) => {
                     if n < last {
                         return Some(i as u64);
@@ -72,12 +74,13 @@ impl<'a, T: IntegerPType> Entries<'a, T> {
     }
 
     // The first length that is negative or runs past `bytes`, when they are laid one behind the other.
+    #[tactic(auto, using(crate::proofs::Steps::overrun_all))]
     pub fn first_overrun(&self, bytes: u64) -> Option<u64>
         ensures { result ≡ first_overrun bytes 0 (map T.value self.now.values.now) }
     {
         let mut left = bytes;
-        for i in 0..self.values.len() {
-            match self.values[i].to_u64() {
+        for (i, value) in self.values.iter().enumerate() {
+            match value.to_u64() {
                 Some(n) => {
                     if n > left {
                         return Some(i as u64);
@@ -95,11 +98,8 @@ impl<'a, T: IntegerPType> Entries<'a, T> {
         ensures { result ≡ in_u64 (total (map T.value self.now.values.now)) }
     {
         let mut sum: u64 = 0;
-        for i in 0..self.values.len() {
-            match sum.checked_add(self.values[i].to_u64().unwrap_or(0)) {
-                Some(s) => sum = s,
-                None => return None,
-            }
+        for value in self.values {
+            sum = sum.checked_add(value.to_u64().unwrap_or(0))?;
         }
         Some(sum)
     }

@@ -2,7 +2,7 @@
 // SPDX-FileCopyrightText: Copyright the Vortex contributors
 // Changed: written anew in Rattle after ptype.rs of vortex-array 0.89.0; only the integer kinds are kept, with the value as the meaning.
 //
-// The eight integer kinds under one trait.
+// The eight integer kinds under one trait, with one impl for each kind: a macro could write the functions and not the meanings, which stand in ghost members.
 ghost use Rattle.std.specs.Prelude.{◌≡◌, ℕ, ◌<◌, ◌≤◌, ℤ, pos, IfSome, MatchOption};
 ghost use Rattle.ptype.specs.Integers.{natural};
 
@@ -31,15 +31,15 @@ impl IntegerPType for u8 {
     ghost greatest = { 255 };
 
     fn max_value_as_u64() -> u64 {
-        u8::MAX as u64
+        u64::from(u8::MAX)
     }
 
     fn to_u64(self) -> Option<u64> {
-        Some(self as u64)
+        Some(u64::from(self))
     }
 
     fn from_u64(n: u64) -> Option<u8> {
-        if n <= 255 { Some(n as u8) } else { None }
+        u8::try_from(n).ok()
     }
 }
 
@@ -49,15 +49,15 @@ impl IntegerPType for u16 {
     ghost greatest = { 65535 };
 
     fn max_value_as_u64() -> u64 {
-        u16::MAX as u64
+        u64::from(u16::MAX)
     }
 
     fn to_u64(self) -> Option<u64> {
-        Some(self as u64)
+        Some(u64::from(self))
     }
 
     fn from_u64(n: u64) -> Option<u16> {
-        if n <= 65_535 { Some(n as u16) } else { None }
+        u16::try_from(n).ok()
     }
 }
 
@@ -67,19 +67,15 @@ impl IntegerPType for u32 {
     ghost greatest = { 4294967295 };
 
     fn max_value_as_u64() -> u64 {
-        u32::MAX as u64
+        u64::from(u32::MAX)
     }
 
     fn to_u64(self) -> Option<u64> {
-        Some(self as u64)
+        Some(u64::from(self))
     }
 
     fn from_u64(n: u64) -> Option<u32> {
-        if n <= 4_294_967_295 {
-            Some(n as u32)
-        } else {
-            None
-        }
+        u32::try_from(n).ok()
     }
 }
 
@@ -111,11 +107,11 @@ impl IntegerPType for i8 {
     }
 
     fn to_u64(self) -> Option<u64> {
-        if self < 0 { None } else { Some(self as u64) }
+        u64::try_from(self).ok()
     }
 
     fn from_u64(n: u64) -> Option<i8> {
-        if n <= 127 { Some(n as i8) } else { None }
+        i8::try_from(n).ok()
     }
 }
 
@@ -129,11 +125,11 @@ impl IntegerPType for i16 {
     }
 
     fn to_u64(self) -> Option<u64> {
-        if self < 0 { None } else { Some(self as u64) }
+        u64::try_from(self).ok()
     }
 
     fn from_u64(n: u64) -> Option<i16> {
-        if n <= 32_767 { Some(n as i16) } else { None }
+        i16::try_from(n).ok()
     }
 }
 
@@ -147,15 +143,11 @@ impl IntegerPType for i32 {
     }
 
     fn to_u64(self) -> Option<u64> {
-        if self < 0 { None } else { Some(self as u64) }
+        u64::try_from(self).ok()
     }
 
     fn from_u64(n: u64) -> Option<i32> {
-        if n <= 2_147_483_647 {
-            Some(n as i32)
-        } else {
-            None
-        }
+        i32::try_from(n).ok()
     }
 }
 
@@ -169,14 +161,10 @@ impl IntegerPType for i64 {
     }
 
     fn to_u64(self) -> Option<u64> {
-        if self < 0 { None } else { Some(self as u64) }
+        u64::try_from(self).ok()
     }
 
     fn from_u64(n: u64) -> Option<i64> {
-        if n <= 9_223_372_036_854_775_807 {
-            Some(n as i64)
-        } else {
-            None
-        }
+        i64::try_from(n).ok()
     }
 }

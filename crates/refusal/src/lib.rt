@@ -1,55 +1,74 @@
-// The refusals: why a call was turned down, with the place where a rule names one.
+// The refusals: why a call was turned down, with the place where a rule names one. Shown to people, a refusal is its number, the rule, and the place.
 #![tactic(auto)]
 
 ghost use Rattle.std.specs.Prelude.{◌≡◌};
 ghost use Rattle.refusal.specs.Refusals.{code_of};
 
-use std::fmt;
+use thiserror::Error;
 
-#[derive(Clone, Copy)]
+#[derive(Clone, Copy, Debug, PartialEq, Eq, Error)]
 pub enum Refusal {
     // 1: the store, heap or bit bytes are not as the builder left them
+    #[error("refused {number}: the memory is not as the builder left it", number = self.number())]
     OtherMemory,
     // 2: more rows than the capacity
+    #[error("refused {number}: more rows than the capacity", number = self.number())]
     RowsOverCapacity,
     // 3: more bytes than the heap has
+    #[error("refused {number}: more bytes than the heap has", number = self.number())]
     BytesOverHeap,
     // 4: more bytes than the store's greatest offset
+    #[error("refused {number}: more bytes than the greatest offset", number = self.number())]
     BytesOverTop,
     // 5: a null where there may be none
+    #[error("refused {number}: a null where there may be none", number = self.number())]
     NullNotAllowed,
     // 6: two counts that have to agree differ, or a mask has too few bytes
+    #[error("refused {number}: counts differ", number = self.number())]
     CountsDiffer,
     // 7: an end or a length that is negative, falls or runs past the bytes
+    #[error("refused {number}: a bad end or length, entry {entry}", number = self.number())]
     BadEnd { entry: u64 },
     // 8: the parts do not add up to the whole that was told
+    #[error("refused {number}: another total", number = self.number())]
     TotalDiffers,
     // 9: the decoder refused
+    #[error("refused {number}: the decoder refused", number = self.number())]
     DecoderRefused,
     // 10: the decoder wrote another count of bytes
+    #[error("refused {number}: the decoder wrote another count", number = self.number())]
     DecodedCountDiffers,
     // 11: a row that the source does not have
+    #[error("refused {number}: a row that is not there, entry {entry}", number = self.number())]
     RowAbsent { entry: u64 },
     // 12: a mask that is not as long as the source
+    #[error("refused {number}: a mask of another length", number = self.number())]
     MaskLengthDiffers,
     // 13: a store that holds an offset or has no free entry
+    #[error("refused {number}: a store that is not fresh", number = self.number())]
     StoreNotFresh,
     // 14: more rows or heap bytes than the limits allow
+    #[error("refused {number}: over a limit", number = self.number())]
     OverLimit,
     // 15: no offsets
+    #[error("refused {number}: no offsets", number = self.number())]
     NoOffsets,
     // 16: validity that does not fit the rows or the nullability
+    #[error("refused {number}: validity that does not fit", number = self.number())]
     ValidityMismatch,
     // 17: an offset that is negative, falls or leaves the heap
+    #[error("refused {number}: a bad offset, entry {entry}", number = self.number())]
     BadOffset { entry: u64 },
     // 18: a row of text that is not UTF-8, and the heap place of its first bad character
+    #[error("refused {number}: not UTF-8, row {entry}, byte {byte}", number = self.number())]
     NotUtf8 { entry: u64, byte: u64 },
     // 19: a record that is short or malformed
+    #[error("refused {number}: a malformed record, entry {entry}", number = self.number())]
     MalformedRecord { entry: u64 },
 }
 
 impl Refusal {
-    // The number of the rule.
+    // The number of the rule, by a match: `as` reads no number of a variant that has fields.
     pub fn number(self) -> u8
         ensures { result ≡ (code_of self).number }
     {
@@ -60,19 +79,19 @@ impl Refusal {
             Refusal::BytesOverTop => 4,
             Refusal::NullNotAllowed => 5,
             Refusal::CountsDiffer => 6,
-            Refusal::BadEnd { entry: _ } => 7,
+            Refusal::BadEnd { .. } => 7,
             Refusal::TotalDiffers => 8,
             Refusal::DecoderRefused => 9,
             Refusal::DecodedCountDiffers => 10,
-            Refusal::RowAbsent { entry: _ } => 11,
+            Refusal::RowAbsent { .. } => 11,
             Refusal::MaskLengthDiffers => 12,
             Refusal::StoreNotFresh => 13,
             Refusal::OverLimit => 14,
             Refusal::NoOffsets => 15,
             Refusal::ValidityMismatch => 16,
-            Refusal::BadOffset { entry: _ } => 17,
-            Refusal::NotUtf8 { entry: _, byte: _ } => 18,
-            Refusal::MalformedRecord { entry: _ } => 19,
+            Refusal::BadOffset { .. } => 17,
+            Refusal::NotUtf8 { .. } => 18,
+            Refusal::MalformedRecord { .. } => 19,
         }
     }
 
@@ -81,11 +100,11 @@ impl Refusal {
         ensures { result ≡ (code_of self).entry }
     {
         match self {
-            Refusal::BadEnd { entry } => entry,
-            Refusal::RowAbsent { entry } => entry,
-            Refusal::BadOffset { entry } => entry,
-            Refusal::NotUtf8 { entry, byte: _ } => entry,
-            Refusal::MalformedRecord { entry } => entry,
+            Refusal::BadEnd { entry }
+            | Refusal::RowAbsent { entry }
+            | Refusal::BadOffset { entry }
+            | Refusal::NotUtf8 { entry, .. }
+            | Refusal::MalformedRecord { entry } => entry,
             _ => 0,
         }
     }
@@ -95,57 +114,8 @@ impl Refusal {
         ensures { result ≡ (code_of self).byte }
     {
         match self {
-            Refusal::NotUtf8 { entry: _, byte } => byte,
+            Refusal::NotUtf8 { byte, .. } => byte,
             _ => 0,
-        }
-    }
-
-    // What the rule says, for people.
-    fn text(self) -> &'static str {
-        match self {
-            Refusal::OtherMemory => "the memory is not as the builder left it",
-            Refusal::RowsOverCapacity => "more rows than the capacity",
-            Refusal::BytesOverHeap => "more bytes than the heap has",
-            Refusal::BytesOverTop => "more bytes than the greatest offset",
-            Refusal::NullNotAllowed => "a null where there may be none",
-            Refusal::CountsDiffer => "counts differ",
-            Refusal::BadEnd { entry: _ } => "a bad end or length",
-            Refusal::TotalDiffers => "another total",
-            Refusal::DecoderRefused => "the decoder refused",
-            Refusal::DecodedCountDiffers => "the decoder wrote another count",
-            Refusal::RowAbsent { entry: _ } => "a row that is not there",
-            Refusal::MaskLengthDiffers => "a mask of another length",
-            Refusal::StoreNotFresh => "a store that is not fresh",
-            Refusal::OverLimit => "over a limit",
-            Refusal::NoOffsets => "no offsets",
-            Refusal::ValidityMismatch => "validity that does not fit",
-            Refusal::BadOffset { entry: _ } => "a bad offset",
-            Refusal::NotUtf8 { entry: _, byte: _ } => "not UTF-8",
-            Refusal::MalformedRecord { entry: _ } => "a malformed record",
-        }
-    }
-}
-
-// For people: the number, the rule, and the place where the rule names one.
-impl fmt::Display for Refusal {
-    fn fmt<W: fmt::Write>(&self, f: &mut fmt::Formatter<W>) -> fmt::Result {
-        let number = self.number();
-        let text = self.text();
-        let entry = self.entry();
-        let byte = self.byte();
-        match *self {
-            Refusal::NotUtf8 { entry: _, byte: _ } => write!(
-                f,
-                "refused {number}: {text}, row {entry}, byte {byte}"
-            ),
-            Refusal::BadEnd { entry: _ }
-            | Refusal::RowAbsent { entry: _ }
-            | Refusal::BadOffset { entry: _ }
-            | Refusal::MalformedRecord { entry: _ } => write!(
-                f,
-                "refused {number}: {text}, entry {entry}"
-            ),
-            _ => write!(f, "refused {number}: {text}"),
         }
     }
 }

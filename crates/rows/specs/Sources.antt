@@ -1,14 +1,12 @@
 -- What a row that is handed out shows, and what a join of sources means.
-use Rattle.std.specs.Prelude.{◌≡◌, List, ◌++◌, take, Some, None, Option}
-use Rattle.slots.specs.Rows.{Row, null, bytes}
-use Rattle.rows.specs.declared.row.RowRef.{RowRef}
-use Rattle.rows.specs.declared.row.RowRef.TheVariants.{Absent, Null, Bytes}
+use Rattle.std.specs.Prelude.{◌≡◌, ℕ, List, ◌++◌, take, Option}
+use Rattle.std.specs.Borrow.{Bor}
+use Rattle.std.specs.Option.{option_map}
+use Rattle.slots.specs.Rows.{Row, row_of}
 
 -- the row that an answer shows: absent, null, or what the part of memory holds
-abbrev pub shown : RowRef → Option Row
-shown Absent = None
-shown Null = Some null
-shown (Bytes part) = Some (bytes part.now)
+abbrev pub shown : Option (Option (Bor (List ℕ))) → Option Row
+shown o = option_map (λ r. row_of (option_map (λ part. part.now) r)) o
 
 -- the rows of two sources, one after the other, cut at the most that a source shows
 abbrev pub joined_rows : List Row → List Row → List Row

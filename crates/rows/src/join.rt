@@ -5,7 +5,7 @@ ghost use Rattle.rows.specs.Sources.{joined_rows, JoinLaw};
 use crate::row::RowRef;
 use crate::source::RowSource;
 
-// The most rows that a source shows.
+// The most rows that a source shows. A column has at most 16,777,216.
 pub const MOST_ROWS: u64 = 4_294_967_295;
 
 #[derive(Drop)]
@@ -15,6 +15,7 @@ pub struct Join<A, B> {
 }
 
 impl<A: RowSource, B: RowSource> Join<A, B> {
+    #[tactic(auto, using(crate::proofs::Places::join_law))]
     pub fn new(first: A, second: B) -> Join<A, B>
         ensures parts { (result.first ≡ first) × (result.second ≡ second) }
         ensures law { JoinLaw }
@@ -26,13 +27,15 @@ impl<A: RowSource, B: RowSource> Join<A, B> {
 impl<A: RowSource, B: RowSource> RowSource for Join<A, B> {
     ghost rows = { λ s. joined_rows (A.RowSource.rows s.first) (B.RowSource.rows s.second) };
 
+    #[tactic(auto, using(crate::proofs::Places::length_joined))]
     fn len(&self) -> u32 {
         self.first.len().saturating_add(self.second.len())
     }
 
-    fn row(&self, i: u64) -> RowRef<'_> {
+    #[tactic(auto, using(crate::proofs::Places::joined_first, crate::proofs::Places::joined_second))]
+    fn row(&self, i: u64) -> Option<RowRef<'_>> {
         if i >= MOST_ROWS {
-            return RowRef::Absent;
+            return None;
         }
         let count = self.first.len() as u64;
         if i < count {

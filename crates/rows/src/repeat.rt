@@ -8,7 +8,7 @@ use crate::source::RowSource;
 
 #[derive(Clone, Copy)]
 pub struct RepeatedRow<'a> {
-    pub row: Option<&'a [u8]>,
+    pub row: RowRef<'a>,
     pub len: u32,
 }
 
@@ -19,14 +19,11 @@ impl RowSource for RepeatedRow<'_> {
         self.len
     }
 
-    fn row(&self, i: u64) -> RowRef<'_> {
+    fn row(&self, i: u64) -> Option<RowRef<'_>> {
         if i < self.len as u64 {
-            match self.row {
-                Some(bytes) => RowRef::Bytes(bytes),
-                None => RowRef::Null,
-            }
+            Some(self.row)
         } else {
-            RowRef::Absent
+            None
         }
     }
 }

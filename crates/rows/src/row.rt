@@ -1,7 +1,2 @@
-// A row as a source hands it out: a part of the memory that holds it, null, or absent.
-#[derive(Clone, Copy)]
-pub enum RowRef<'a> {
-    Absent,
-    Null,
-    Bytes(&'a [u8]),
-}
+// A row as a source hands it out: the part of the memory that holds its bytes, or none for a null.
+pub type RowRef<'a> = Option<&'a [u8]>;

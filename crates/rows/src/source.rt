@@ -13,7 +13,7 @@ pub trait RowSource {
     fn len(&self) -> u32
         ensures { result ≡ length (rows self.now) };
 
-    // Row i, absent from the count on.
-    fn row(&self, i: u64) -> RowRef<'_>
+    // Row i, none from the count on.
+    fn row(&self, i: u64) -> Option<RowRef<'_>>
         ensures { shown result ≡ slice_get (rows self.now) i };
 }

@@ -10,12 +10,12 @@ mod tests {
     use std::process::Abort;
 
     // The first byte of a row, 256 for an empty row, 257 for null, 258 for absent.
-    fn first(row: RowRef<'_>) -> u16 {
+    fn first(row: Option<RowRef<'_>>) -> u16 {
         match row {
-            RowRef::Absent => 258,
-            RowRef::Null => 257,
-            RowRef::Bytes([]) => 256,
-            RowRef::Bytes([b, ..]) => *b as u16,
+            None => 258,
+            Some(None) => 257,
+            Some(Some([])) => 256,
+            Some(Some([b, ..])) => u16::from(*b),
         }
     }
 

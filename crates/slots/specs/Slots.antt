@@ -1,6 +1,7 @@
 -- A slot is a valid flag and a list of bytes; a column is what Arrow's variable-size binary layout makes of a list of slots.
 use Rattle.std.specs.Prelude.{ℕ, ◌+◌, Bool, true, false, cond, List, [], ◌∷◌, map, length}
 use Rattle.std.specs.List.{flat_map}
+use Rattle.slots.specs.declared.slot.SlotRef.{SlotRef}
 use Rattle.slots.specs.Rows.{Row, null, bytes}
 
 pub record Slot : Type 0 where
@@ -9,6 +10,10 @@ pub record Slot : Type 0 where
 
 abbrev pub slot : Bool → List ℕ → Slot
 slot valid content = record { valid = valid; content = content }
+
+-- a slot as code hands it on
+abbrev pub slot_of : SlotRef → Slot
+slot_of s = slot s.valid s.bytes.now
 
 -- the row of a slot: its bytes where it is valid, else null, whatever bytes lie under it
 abbrev pub slot_row : Slot → Row

@@ -20,16 +20,17 @@ BoundariesTo zs heap n = (i : ℕ) → i < n → Boundary heap (amount_at zs i)
 abbrev pub InHeap : List ℤ → List ℕ → Type 0
 InHeap zs heap = (i : ℕ) → i < length zs → amount_at zs i ≤ length heap
 
--- the one at i was tried: it is none, or one more
-module _ (zs : List ℤ) (heap : List ℕ) (i o : ℕ) (r : Bool) (h : i < length zs) (e : o ≡ amount_at zs i) (in_heap_lem : InHeap zs heap) (d : o ≤ length heap → Decides r (Boundary heap o)) where
-  there : o ≤ length heap
-  there = omega (arith, in_heap_lem i h)
+-- whether the one at i is, as it was read and tried
+pub tried : (zs : List ℤ) (heap : List ℕ) (i o : ℕ) (r : Bool) → i < length zs → o ≡ amount_at zs i → InHeap zs heap → (o ≤ length heap → Decides r (Boundary heap o)) → Decides r (Boundary heap (amount_at zs i))
+tried zs heap i o r h e within d = subst (λ n. Decides r (Boundary heap n)) e (d (omega (arith, within i h)))
 
-  pub no_boundary : r ≡ false → Decides false (BoundariesTo zs heap (length zs))
-  no_boundary n = ((λ y. absurd (false≢true y)), (λ b. absurd (not_from_Decides r (d there) n (subst (Boundary heap) (sym e) (b i h)))))
+-- it is none, or one more
+module _ (zs : List ℤ) (heap : List ℕ) (i : ℕ) (r : Bool) (d : Decides r (Boundary heap (amount_at zs i))) where
+  pub no_boundary : i < length zs → r ≡ false → Decides false (BoundariesTo zs heap (length zs))
+  no_boundary h n = ((λ y. absurd (false≢true y)), (λ b. absurd (not_from_Decides r d n (b i h))))
 
   pub boundary_more : r ≡ true → BoundariesTo zs heap i → BoundariesTo zs heap (i + 1)
-  boundary_more y b = below_more (λ k. Boundary heap (amount_at zs k)) i b (subst (Boundary heap) e ((d there).0 y))
+  boundary_more y b = below_more (λ k. Boundary heap (amount_at zs k)) i b (d.0 y)
 
 pub all_tried : (zs : List ℤ) (heap : List ℕ) (n : ℕ) → length zs ≤ n → BoundariesTo zs heap n → Decides true (BoundariesTo zs heap (length zs))
 all_tried zs heap n le b = ((λ y k h. b k (omega arith)), (λ t. refl))
@@ -45,17 +46,20 @@ pub none_there : (zs : List ℤ) (heap : List ℕ) → None ≡ natural_at zs 0 
 none_there zs heap e = not_tiled zs heap (λ t. let r = read (length heap) 0 0 zs t.rising 0 t.some in let z : ◌≡◌ {A = ℕ} 0 1 = cc in omega arith)
 
 -- there is one
-pub some_there : (zs : List ℤ) (n : ℕ) → Some n ≡ natural_at zs 0 → 0 < length zs
-some_there [] n e = let z : ◌≡◌ {A = ℕ} 0 1 = cc in absurd (omega arith)
-some_there (z ∷ zs) n e = omega arith
+pub some_there : (zs : List ℤ) → is_some (natural_at zs 0) ≡ true → 0 < length zs
+some_there [] e = absurd (false≢true e)
+some_there (z ∷ zs) e = omega arith
 
 -- the search for a fall found one, or none
-pub falls : (zs : List ℤ) (heap : List ℕ) (o : Option ℕ) (r : Bool) → o ≡ first_fall (length heap) 0 0 zs → r ≡ is_some o → r ≡ true → Decides false (Tiles zs heap)
-falls zs heap o r e is y = not_tiled zs heap (λ t. false≢true (sym (ap is_some (e ∙ t.rising)) ∙ sym is ∙ y))
+pub falls : (zs : List ℤ) (heap : List ℕ) → is_some (first_fall (length heap) 0 0 zs) ≡ true → Decides false (Tiles zs heap)
+falls zs heap y = not_tiled zs heap (λ t. false≢true (sym (ap is_some t.rising) ∙ y))
 
-pub no_fall : (zs : List ℤ) (heap : List ℕ) (o : Option ℕ) (r : Bool) → o ≡ first_fall (length heap) 0 0 zs → r ≡ is_some o → r ≡ false → first_fall (length heap) 0 0 zs ≡ None
-no_fall zs heap (Some k) r e is n = absurd (false≢true (sym n ∙ is))
-no_fall zs heap None r e is n = sym e
+pub no_fall : (limit : ℕ) (zs : List ℤ) → is_some (first_fall limit 0 0 zs) ≡ false → first_fall limit 0 0 zs ≡ None
+no_fall limit zs n = by (first_fall limit 0 0 zs) n
+  where
+    by : (o : Option ℕ) → is_some o ≡ false → o ≡ None
+    by None n = refl
+    by (Some k) n = absurd (false≢true (sym n))
 
 -- offsets that never fall stay within the heap
 pub rising_in : (zs : List ℤ) (heap : List ℕ) → first_fall (length heap) 0 0 zs ≡ None → InHeap zs heap
@@ -72,7 +76,7 @@ pub record Ends (zs : List ℤ) (heap : List ℕ) (first last : ℕ) : Type 0 wh
 
 pub ends : (zs : List ℤ) (heap : List ℕ) (n first last : ℕ) (o : Option ℕ) → first_fall (length heap) 0 0 zs ≡ None → Some first ≡ natural_at zs 0 → n ≡ length zs → o ≡ natural_at zs (n - 1) → last ≡ unwrap_or o first → Ends zs heap first last
 ends zs heap n first last o rising f e l v =
-    let more = some_there zs first f in
+    let more = some_there zs (ap is_some (sym f)) in
     let from : first ≡ amount_at zs 0 = entry_at zs 0 first f in
     let end = read (length heap) 0 0 zs rising (length zs - 1) (omega arith) in
     let to : last ≡ amount_at zs (length zs - 1) = v ∙ ap (λ p. unwrap_or p first) (l ∙ ap (λ m. natural_at zs (m - 1)) e ∙ end) in

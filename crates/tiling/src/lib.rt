@@ -28,8 +28,9 @@ fn all_boundaries(offsets: IntegerSlice<'_>, bytes: &[u8]) -> bool
     requires { (i : ℕ) → i < length (integers offsets) → amount_at (integers offsets) i ≤ length bytes.now }
     ensures { Decides result ((i : ℕ) → i < length (integers offsets.entry) → Boundary bytes.now (amount_at (integers offsets.entry) i)) }
 {
+    // by number: `all` over the numbers was tried, and that each offset was tried did not follow from it
     for i in 0..offsets.len() {
-        if !is_char_boundary_at(bytes, offsets.get(i).unwrap_or(0)) {
+        if !is_char_boundary_at(bytes, offsets.amount(i)) {
             return false;
         }
     }
@@ -37,6 +38,7 @@ fn all_boundaries(offsets: IntegerSlice<'_>, bytes: &[u8]) -> bool
 }
 
 // Whether the offsets never fall, end within the heap, and delimit UTF-8 strings, those at null rows too.
+#[tactic(auto, using(crate::proofs::Law::tiling_law, crate::proofs::Examples::examples, crate::proofs::Decided::falls, crate::proofs::Decided::none_there, crate::proofs::Decided::some_there))]
 pub fn offsets_tile_utf8(offsets: IntegerSlice<'_>, bytes: &[u8]) -> bool
     ensures answer { Decides result (Tiles (integers offsets.entry) bytes.now) }
     ensures law { TilingLaw }

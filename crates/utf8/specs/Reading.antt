@@ -4,6 +4,7 @@ use Rattle.utf8.specs.declared.lead.Lead.{Lead}
 use Rattle.utf8.specs.declared.reader.State.{State}
 use Rattle.utf8.specs.declared.reader.State.TheVariants.{Start, Need, Wrong}
 use Rattle.utf8.specs.declared.reader.Utf8Reader.{Utf8Reader}
+use Rattle.utf8.specs.declared.validate.Utf8Error.{Utf8Error}
 use Rattle.utf8.specs.Grammar.{rows}
 
 -- between two characters; within one, with so many bytes to come and bounds for the next; or past a bad byte
@@ -72,6 +73,6 @@ abbrev pub reading : Utf8Reader → Reading
 reading r = record { awaited = awaited_of r.state; begin = r.begin }
 
 -- the answer of a check: no bad character, or the place of the first
-abbrev pub checked : {X : Type 0} → Result X ℕ → Option ℕ
+abbrev pub checked : {X : Type 0} → Result X Utf8Error → Option ℕ
 checked (Ok x) = None
-checked (Err k) = Some k
+checked (Err e) = Some e.valid_up_to

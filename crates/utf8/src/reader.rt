@@ -76,11 +76,7 @@ impl Utf8Reader {
     {
         match self.state {
             State::Start => None,
-            State::Need {
-                left: _,
-                low: _,
-                high: _,
-            } => Some(self.begin),
+            State::Need { .. } => Some(self.begin),
             State::Wrong => Some(self.begin),
         }
     }

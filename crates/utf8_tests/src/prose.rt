@@ -62,6 +62,7 @@ fn is_character(c: &[u8]) -> bool {
 // Where the first character begins that is none, if there is one.
 pub fn first_wrong(bytes: &[u8]) -> Option<u64> {
     let mut at = 0;
+    // by place, since each step is as long as the character
     while at < bytes.len() {
         let n = octets(bytes[at]);
         if n == 0 || n > bytes.len() - at || !is_character(&bytes[at..at + n]) {

@@ -1,6 +1,7 @@
 -- Each call in its turn, and its outcome in its place.
-use Rattle.std.proofs.Common.{◌≡◌, ◌≤◌, map, length, take, subst, arith}
-use Rattle.builder.specs.States.{state_of}
+use Rattle.std.proofs.Common.{◌≡◌, ◌≤◌, map, length, take, subst, arith, length-take}
+use Rattle.builder.specs.States.{state_with}
+use Rattle.builder.proofs.Lent.{then_same}
 use Rattle.history.specs.Requests.{request_of}
 use Rattle.history.specs.Running.{Carried}
 use Rattle.history.specs.Runs.{answers_of}
@@ -13,10 +14,11 @@ loop-i-preserved g c =
     let f = request_of g.R.RowSource.rows g.D.Decoder.means in
     let n = c.min-count.result in
     let calls = c.args.calls.now in
-    let m0 = state_of s.offsets s.free s.top c.args.builder.now c.args.store.now c.args.heap.now c.args.bits.now in
-    let m = state_of s.offsets s.free s.top c.loop-i.builder c.loop-i.store c.loop-i.heap c.loop-i.bits in
+    let m0 = state_with s.offsets s.free s.top c.args.builder.now c.args.memory.now in
+    let m = state_with s.offsets s.free s.top c.loop-i.builder c.loop-i.memory in
     let le : n ≤ length calls = omega (arith, c.min-count.ensures) in
-    more m0 (map f (take n calls)) c.args.outcomes.now c.loop-i.i m c.loop-i.outcomes c.loop-i.invariant (f c.index-calls-i.result) _ c.carry_out.result (omega (arith, requests_long f calls n le, c.loop-i-test.true)) (omega (arith, c.min-count.ensures, c.loop-i-test.true)) (request_at f calls n c.loop-i.i c.index-calls-i.result c.loop-i-test.true le c.index-calls-i.is) c.carry_out.ensures.answer c.carry_out.ensures.after
+    let here = c.loop-i-test.true in
+    (more m0 (map f (take n calls)) c.args.outcomes.now c.loop-i.i m c.loop-i.outcomes c.loop-i.invariant.0 (f c.call-item.result) _ c.carry_out.result (omega (arith, requests_long f calls n le, length-take n calls, here)) (omega (arith, c.min-count.ensures, length-take n calls, here)) (request_at f (take n calls) c.loop-i.i c.call-item.result here c.call-item.is) c.carry_out.ensures.answer c.carry_out.ensures.after, then_same _ _ _ c.loop-i.invariant.1 c.carry_out.ensures.same)
 
 pub returns : goal.returns
 returns g c =
@@ -24,12 +26,13 @@ returns g c =
     let f = request_of g.R.RowSource.rows g.D.Decoder.means in
     let n = c.min-count.result in
     let calls = c.args.calls.now in
-    let m0 = state_of s.offsets s.free s.top c.args.builder.now c.args.store.now c.args.heap.now c.args.bits.now in
-    let m = state_of s.offsets s.free s.top c.loop-i.builder c.loop-i.store c.loop-i.heap c.loop-i.bits in
+    let m0 = state_with s.offsets s.free s.top c.args.builder.now c.args.memory.now in
+    let m = state_with s.offsets s.free s.top c.loop-i.builder c.loop-i.memory in
     let long = requests_long f calls n (omega (arith, c.min-count.ensures)) in
-    let last : c.loop-i.i ≡ n = omega (arith, c.loop-i-test.false, c.loop-i.auto.i-end) in
+    let last : c.loop-i.i ≡ n = omega (arith, c.min-count.ensures, length-take n calls, c.loop-i-test.false) in
     record {
       count = c.min-count.ensures;
-      memory = ends_memory m0 (map f (take n calls)) c.args.outcomes.now c.loop-i.i m c.loop-i.outcomes c.loop-i.invariant (omega (arith, long));
-      told = subst (λ k. Carried k (answers_of m0 (map f (take n calls))) c.args.outcomes.now c.loop-i.outcomes) last (ends_told m0 (map f (take n calls)) c.args.outcomes.now c.loop-i.i m c.loop-i.outcomes c.loop-i.invariant (omega (arith, long)));
+      memory = ends_memory m0 (map f (take n calls)) c.args.outcomes.now c.loop-i.i m c.loop-i.outcomes c.loop-i.invariant.0 (omega (arith, long));
+      told = subst (λ k. Carried k (answers_of m0 (map f (take n calls))) c.args.outcomes.now c.loop-i.outcomes) last (ends_told m0 (map f (take n calls)) c.args.outcomes.now c.loop-i.i m c.loop-i.outcomes c.loop-i.invariant.0 (omega (arith, long)));
+      same = c.loop-i.invariant.1;
     }

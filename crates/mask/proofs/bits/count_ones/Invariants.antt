@@ -1,8 +1,7 @@
--- What the loop over the bytes keeps.
-use Rattle.std.proofs.Common.{◌≡◌, ◌*◌, min}
-use Rattle.mask.specs.Masks.{bit_flags, set_count}
+-- What the loop over the whole bytes keeps.
+use Rattle.std.proofs.Common.{length}
+use Rattle.mask.proofs.Ones.{Counted}
 use Rattle.mask.proofs.bits.count_ones.Given as goal
 
--- the bits of the bytes so far, as many of them as are asked for
-abbrev pub invariant-loop-i : goal.invariant-loop-i
-invariant-loop-i l = l.total ≡ set_count (bit_flags (min l.n (8 * l.i)) l.bytes)
+abbrev pub invariant-loop-byte : goal.invariant-loop-byte
+invariant-loop-byte l = Counted l.bytes l.whole (length l.yielded) l.byte-iterator.n l.byte-iterator.iter.rest.now l.total

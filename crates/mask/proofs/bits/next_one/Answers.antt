@@ -1,25 +1,20 @@
--- The search at its start, from one byte to the next, and at each of its ends.
-use Rattle.std.proofs.Common.{inl, inr, ⊎_elim, arith, rules}
-use Rattle.mask.proofs.Seek.{before_from, start, on, none_here, hit, found, not_found}
+-- The search from one byte to the next, and at each of its ends.
+use Rattle.std.proofs.Common.{◌∙◌, inl, inr, arith, rules}
+use Rattle.mask.proofs.Seek.{seek, none_here, hit, place, not_found}
 use Rattle.mask.proofs.bits.next_one.Goals as goal
 
-pub returns-then-from-n : goal.returns-then-from-n
-returns-then-from-n c = not_found _ _ _ _ (before_from _ _) (inl c.if-from-n.true)
+pub returns-in_err-byte : goal.returns-in_err-byte
+returns-in_err-byte c =
+    let past = c.in_err-byte.ensures.lookup in
+    c.from_residual.ensures ∙ not_found _ _ _ _ c.loop-i.invariant (inr (omega arith))
 
-pub returns-then-i-bytes : goal.returns-then-i-bytes
-returns-then-i-bytes c = not_found _ _ _ c.args.from (before_from _ _) (inr (omega arith))
+pub returns-then-byte-ne0 : goal.returns-then-byte-ne0
+returns-then-byte-ne0 c =
+    c.then_some.ensures ∙ place _ _ _ _ (hit _ _ _ (seek _ _ _ _ _ c.loop-i.invariant (omega arith) c.saturating_sub.ensures (search rules) (search rules)) (search rules))
 
-pub loop-byte-init : goal.loop-byte-init
-loop-byte-init c = (start _ _ (c.type_inv.bytes _).fits, omega arith, omega arith)
+pub loop-i-preserved : goal.loop-i-preserved
+loop-i-preserved c =
+    none_here _ _ _ (seek _ _ _ c.in_ok-byte.field-0.now _ c.loop-i.invariant (omega arith) c.saturating_sub.ensures (search rules) (search rules)) (search rules)
 
-pub loop-byte-preserved : goal.loop-byte-preserved
-loop-byte-preserved c = (on _ _ _ _ c.loop-byte.invariant.1 c.loop-byte.invariant.0 (search rules) (c.type_inv.bytes _).fits, omega (arith, c.loop-byte.invariant.1), search rules)
-
-pub returns-then-i-n : goal.returns-then-i-n
-returns-then-i-n c = not_found _ _ _ _ (none_here _ _ _ c.loop-byte.invariant.0 c.loop-byte-test.true) (⊎_elim (λ h. inl (omega arith)) (λ h. inr (omega arith)) c.then-i-n.either)
-
-pub returns-then-place-n : goal.returns-then-place-n
-returns-then-place-n c = found _ _ _ _ (hit _ _ _ c.loop-byte.invariant.0 (search rules)) c.if-place-n.true
-
-pub returns-else-place-n : goal.returns-else-place-n
-returns-else-place-n c = not_found _ _ _ _ (hit _ _ _ c.loop-byte.invariant.0 (search rules)).first (inl c.if-place-n.false)
+pub returns : goal.returns
+returns c = not_found _ _ _ _ c.loop-i.invariant (inl (omega (arith, c.div_ceil-i-end.ensures)))

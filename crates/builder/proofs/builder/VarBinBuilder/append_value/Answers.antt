@@ -1,6 +1,6 @@
--- One of the equal slots, and the examples.
+-- The examples.
 use Rattle.builder.proofs.Samples.{top_examples}
 use Rattle.builder.proofs.builder.VarBinBuilder.append_value.Goals as goal
 
-pub returns : goal.returns
-returns g c = record { answer = c.append_repeated.ensures.answer; after = c.append_repeated.ensures.after; examples = top_examples }
+pub returns-clause-examples : goal.returns-clause-examples
+returns-clause-examples g c = top_examples

@@ -1,13 +1,11 @@
--- An entry within the slice is read, and none is there past it.
-use Rattle.std.proofs.Common.{◌≤◌, map, length, sym, ◌∙◌, arith}
-use Rattle.std.proofs.lemmas.List.{length-map}
-use Rattle.ptype.proofs.Naturals.{at_in, at_past}
+-- An entry within the slice is read.
+use Rattle.std.proofs.Common.{ap, ◌∙◌, arith}
+use Rattle.ptype.specs.Integers.{natural}
+use Rattle.ptype.proofs.Naturals.{at_in}
 use Rattle.ptype.proofs.entries.Entries.get.Goals as goal
 
-pub returns-then-i-self : goal.returns-then-i-self
-returns-then-i-self g c = c.to_u64.ensures.value ∙ at_in g.T.IntegerPType.value c.args.self.now.values.now c.args.i c.index-self-i.result c.if-i-self.true
-
-pub returns-else-i-self : goal.returns-else-i-self
-returns-else-i-self g c =
-    let past : length (map g.T.IntegerPType.value c.args.self.now.values.now) ≤ c.args.i = omega (arith, length-map c.args.self.now.values.now g.T.IntegerPType.value) in
-    sym (at_past (map g.T.IntegerPType.value c.args.self.now.values.now) c.args.i past)
+pub returns : goal.returns
+returns g c =
+    let found = c.in-Some.ensures.lookup in
+    c.to_u64.ensures.value ∙ ap (λ y. natural (g.T.IntegerPType.value y)) found.1
+    ∙ at_in g.T.IntegerPType.value c.args.self.now.values.now c.args.i c.in-Some.value.now (omega arith)

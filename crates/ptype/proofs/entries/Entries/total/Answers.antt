@@ -1,23 +1,28 @@
 -- The sum so far goes on, or what is summed no longer fits.
-use Rattle.std.proofs.Common.{◌≡◌, get_or, arith}
-use Rattle.ptype.specs.Integers.{amount}
-use Rattle.ptype.proofs.Naturals.{amount_read}
-use Rattle.ptype.proofs.Steps.{total_more, total_all, fits, fits_not}
+use Rattle.std.proofs.Common.{◌≡◌, ◌+◌, map, drop, ◌∙◌, arith}
+use Rattle.ptype.specs.Searches.{total}
+use Rattle.ptype.proofs.Steps.{total_step, total_all, fits, fits_not}
+use Rattle.ptype.proofs.entries.Entries.total.Given as given
 use Rattle.ptype.proofs.entries.Entries.total.Goals as goal
+use Rattle.ptype.proofs.entries.Entries.total.Goals.{After-unwrap_or}
 
-pub returns-in-None : goal.returns-in-None
-returns-in-None g c =
-    let n : c.unwrap_or.result ≡ amount (g.T.IntegerPType.value (get_or c.args.self.now.values.now c.loop-i.i c.index-self-i.result)) = amount_read _ _ _ c.unwrap_or.ensures c.to_u64.ensures.value in
-    let on = total_more g.T.IntegerPType.value c.args.self.now.values.now c.loop-i.i c.index-self-i.result c.loop-i-test.true c.loop-i.sum c.unwrap_or.result n c.loop-i.invariant.0 in
-    let over = c.in-None.ensures in
-    fits_not _ (omega arith)
+-- the number that is summed next is a part of what is left
+told : (g : given.Over) (c : After-unwrap_or g) → let zs = map g.T.IntegerPType.value c.args.self.now.values.now in total (drop c.loop-value.value-index zs) ≡ c.unwrap_or.result + total (drop (c.loop-value.value-index + 1) zs)
+told g c =
+    let s = total_step g.T.IntegerPType.value c.args.self.now.values.now c.loop-value.value-index c.value-item.result c.value-item.is c.loop-value-test.true c.to_u64.result c.to_u64.ensures.value in
+    omega (arith, c.unwrap_or.ensures)
 
-pub loop-i-preserved : goal.loop-i-preserved
-loop-i-preserved g c =
-    let n : c.unwrap_or.result ≡ amount (g.T.IntegerPType.value (get_or c.args.self.now.values.now c.loop-i.i c.index-self-i.result)) = amount_read _ _ _ c.unwrap_or.ensures c.to_u64.ensures.value in
-    let on = total_more g.T.IntegerPType.value c.args.self.now.values.now c.loop-i.i c.index-self-i.result c.loop-i-test.true c.loop-i.sum c.unwrap_or.result n c.loop-i.invariant.0 in
-    let s = c.in-Some.ensures in
-    (omega arith, omega arith)
+pub returns-in_err-sum : goal.returns-in_err-sum
+returns-in_err-sum g c =
+    let s = told g (goal.at.returns-in_err-sum g c).After-unwrap_or in
+    c.from_residual.ensures ∙ fits_not _ (omega (arith, c.in_err-sum.ensures))
+
+pub loop-value-preserved : goal.loop-value-preserved
+loop-value-preserved g c =
+    let s = told g (goal.at.loop-value-preserved g c).After-unwrap_or in
+    (omega (arith, c.in_ok-sum.ensures), omega (arith, c.in_ok-sum.ensures))
 
 pub returns : goal.returns
-returns g c = fits c.loop-i.sum _ c.loop-i.invariant.1 (total_all g.T.IntegerPType.value c.args.self.now.values.now c.loop-i.i c.loop-i-test.false c.loop-i.sum c.loop-i.invariant.0)
+returns g c =
+    let s = total_all g.T.IntegerPType.value c.args.self.now.values.now c.loop-value.value-index c.loop-value-test.false in
+    fits c.loop-value.sum _ c.loop-value.invariant.1 (omega arith)

@@ -1,0 +1,31 @@
+#!/usr/bin/env bash
+# Counts the places that docs/DESIGN-PASS.md speaks of, in the sources of the folder given (or this one). Tests are sources too.
+set -eu
+cd "${1:-$(dirname "$0")/..}"
+src() { cat crates/*/src/*.rt | grep -vE '^\s*//' ; }
+count() { printf '%-4s %4s  %s\n' "$1" "$(eval "$2" | wc -l)" "$3"; }
+count 1a "src | grep -E '^\s*(pub )?enum '" "own enums"
+count 1b "src | grep -E 'enum (RowRef|RowIndex|Outcome)\b'" "of them, of the shape of Option or Result"
+count 1c "src | grep -E '\-> Result<[^>]*, u(8|16|32|64)>'" "errors that are a bare number"
+count 1d "src | grep -E 'Err\(([a-z]+)\) => (return )?Err\(|(None|Ok\(\(\)\)) => (return|\{)'" "arms that hand on an error or a None"
+count 1e "src | grep -E '=> return None,|=> return Err\(Refusal'" "arms that leave with a None or a refusal of their own"
+count 2a "src | grep -oE 'const [A-Z_]+' | sort | uniq -d" "constants declared more than once"
+count 2b "src | grep -E '^ *(Integer|Unsigned)Slice::[UI][0-9]+[(][$]?s[)] =>'" "arms that differ only in the kind of number"
+count 2c "src | grep -E '^impl (IntegerPType|NarrowPType) for'" "impls that differ only in the kind of number"
+count 2d "src | grep -oE '^ *fn [a-z_0-9]+' | tr -d ' ' | sort | uniq -d | grep -vxE 'fn(len|row|next|free|top|get|push|decode|from|fmt|drop|to_u64|from_u64|max_value_as_u64)'" "names of functions that stand more than once and belong to no trait"
+count 3a "src | grep -E '\bwhile\b|\bloop\b'" "while and loop"
+count 3b "src | grep -E '\bfor .* in .*\.\.'" "for over a range of numbers"
+count 4a "src | grep -E '^ *impl.* (From|TryFrom|PartialEq|PartialOrd|Ord|Eq|Hash|Clone|Debug|fmt::Display|Display)(<.*>)? for'" "impls of equality, order, copying, conversion or printing written by hand"
+count 4b "src | grep -E 'fn (widen|number|told|code|validity_number|same_tally|text)\b'" "conversions, comparisons and texts as functions of their own"
+count 5a "src | grep -E '^ *store: &(mut )?S,'" "functions that are given store, heap and bits one by one"
+count 5b "src | grep -oE 'S[.]top [a-z]+ ?[.]?[a-z]* store[.](old|new|now)'" "times that a clause names a builder with store, heap and bits one by one"
+count 5c "src | grep -E 'survey\.(rows|nulls|bytes),'" "figures of a survey passed one by one"
+count 5e "src | grep -E '^ *(pub\(super\) )?(nullable|utf8): bool,'" "places where text or nullable is a flag of its own"
+count 5f "src | grep -E '^ *valid: bool,'" "places where a slot's flag stands beside its bytes"
+count 5d "src | grep -E '^ *(fn|pub fn) .*\(?(starts: .*lengths|lengths: RunLengths)|^ *lengths: RunLengths'" "functions and structs that are given starts and lengths, or lengths, of runs"
+count 6a "src | grep -E '^ *(used|len): (usize|u64|u32),'" "a length beside memory"
+count 6b "src | grep -E '\[[0-9a-z]+; [A-Z0-9_]+\]'" "fixed arrays"
+count 7a "src | grep -E '\bdyn\b|: fn\(|Fn(Mut|Once)?\('" "dyn, function pointers and closures as parameters"
+count 7b "src | grep -E 'match call\b'" "switches on which step to run"
+count 8a "cat crates/*/proofs/*.antt crates/*/proofs/*/*.antt crates/*/proofs/*/*/*.antt crates/*/proofs/*/*/*/*.antt 2>/dev/null" "lines of proofs"
+count 8b "grep -hE '^pub .* : goal\.' -r crates/*/proofs --include=Answers.antt" "answers"
