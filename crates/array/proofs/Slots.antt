@@ -9,7 +9,7 @@ use Rattle.ptype.proofs.Rising.{each, ordered}
 use Rattle.slots.specs.Rows.{null, bytes}
 use Rattle.array.specs.Columns.{row_count, slot_bytes, column_row, column_rows}
 
-is_none : {X : Type 0} (o : Option X) → is_some o ≡ false → o ≡ None
+pub is_none : {X : Type 0} (o : Option X) → is_some o ≡ false → o ≡ None
 is_none None e = refl
 is_none (Some x) e = let z : ◌≡◌ {A = ℕ} 0 1 = cc in absurd (omega arith)
 

@@ -25,7 +25,7 @@ module _ (zs : List ℤ) where
   pub longest_more : (i : ℕ) → longest_of (front (i + 1)) ≡ max (longest_of (front i)) (amount_at zs (i + 1) - amount_at zs i)
   longest_more i = ap longest_of (front_more i) ∙ longest_push (front i) (slot_length zs i)
 
-  bytes_are : (heap i : ℕ) → is_some (first_fall heap 0 0 zs) ≡ false → i ≤ row_count zs → amount_at zs 0 + sum (front i) ≡ amount_at zs i
+  pub bytes_are : (heap i : ℕ) → is_some (first_fall heap 0 0 zs) ≡ false → i ≤ row_count zs → amount_at zs 0 + sum (front i) ≡ amount_at zs i
   bytes_are heap zero e h = omega arith
   bytes_are heap (suc i) e h =
       let ih = bytes_are heap i e (omega arith) in

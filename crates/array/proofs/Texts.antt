@@ -1,5 +1,5 @@
 -- The walk over the rows that judges their text.
-use Rattle.std.proofs.Common.{◌≡◌, ℕ, ◌+◌, ◌-◌, ◌<◌, Bool, true, false, cond, List, ◌∷◌, map, length, get_or, drop, ℤ, is_some, Some, None, Option, sym, ap, ◌∙◌, arith, length-append, length-take}
+use Rattle.std.proofs.Common.{◌≡◌, ℕ, ◌+◌, ◌-◌, ◌<◌, Bool, true, false, cond, List, ◌∷◌, map, length, get_or, drop, ℤ, is_some, Some, None, Option, sym, ap, ◌∙◌, arith, length-append, length-take, ◌≤◌}
 use Rattle.std.specs.List.{range_with_len}
 use Rattle.std.specs.Option.{option_map}
 use Rattle.ptype.specs.Integers.{amount_at}
@@ -49,3 +49,6 @@ module _ (zs : List ℤ) (heap : List ℕ) (fs : List Bool) where
 
   pub stop : (i from k : ℕ) → i < row_count zs → true ≡ get_or fs i false → Some k ≡ first_fault (slot_bytes zs heap i) → from ≡ amount_at zs i → Some (code 18 i (from + k)) ≡ rest i
   stop i from k h e bad at = ap (λ n. Some (code 18 i (n + k))) at ∙ sym (text_at i (Some k) h e bad)
+
+  pub all : (i : ℕ) (r : Option Code) → row_count zs ≤ i → rest i ≡ r → None ≡ r
+  all i r h inv = let e : row_count zs - i ≡ 0 = omega arith in sym (ap (λ n. first_refusal (map (row_text zs heap fs) (range_with_len i n))) e) ∙ inv

@@ -45,11 +45,15 @@ state_of offsets free top b s heap bits = record {
 abbrev pub state_with : {S : Type 0} → (S → List ℕ) → (S → ℕ) → (S → ℕ) → VarBinBuilder → Memory S → State
 state_with offsets free top b memory = state_of offsets free top b memory.store.now memory.heap.now memory.bits.now
 
--- the same memory is lent: what is written to it, its lender finds
+-- the same memory is lent: what is written to it, its lender finds; heap and bits lie where they lay, and are as long as they were
 pub record SameMemory {S : Type 0} (before after : Memory S) : Type 0 where
   pub same_store : after.store.ghost_name ≡ before.store.ghost_name
   pub same_heap : after.heap.ghost_name ≡ before.heap.ghost_name
   pub same_bits : after.bits.ghost_name ≡ before.bits.ghost_name
+  pub heap_place : after.heap.ref_ptr ≡ before.heap.ref_ptr
+  pub bits_place : after.bits.ref_ptr ≡ before.bits.ref_ptr
+  pub heap_length : length after.heap.now ≡ length before.heap.now
+  pub bits_length : length after.bits.now ≡ length before.bits.now
 
 -- bytes laid over a heap from a place on
 abbrev pub put_bytes : List ℕ → ℕ → List ℕ → List ℕ

@@ -81,7 +81,7 @@ fn place_lengths<S: OffsetStore>(
     // by number: neither the lengths nor the mask is a slice, and a `zip` of two iterators of our own is longer than this loop
     for i in 0..lengths.len() {
         let size = lengths.amount(i);
-        place_row(b, memory, validity.value(i), size);
+        place_row(b, memory.store, memory.bits, validity.value(i), size);
     }
 }
 
@@ -121,7 +121,9 @@ impl VarBinBuilder {
         check_decode(self, memory, num_bytes, slack, lengths, validity)?;
         let from = self.used as usize;
         let to = from + (num_bytes + slack) as usize;
-        decode_part(decoder, &mut memory.heap[from..to], num_bytes, lengths)?;
+        if let Err(refusal) = decode_part(decoder, &mut memory.heap[from..to], num_bytes, lengths) {
+            return Err(refusal);
+        }
         place_lengths(self, memory, lengths, validity);
         Ok(())
     }

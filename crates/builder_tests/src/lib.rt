@@ -36,6 +36,23 @@ fn one_value<S: OffsetStore>(
     Ok(finished)
 }
 
+// A caller that goes on with the memory that it lent: its heap is as long as it was, so a byte that was there is there.
+#[cfg(test)]
+fn append_then_mark<S: OffsetStore>(
+    builder: &mut VarBinBuilder,
+    memory: &mut Memory<'_, S>,
+    value: &[u8],
+    at: usize,
+    mark: u8,
+) -> Result<(), Refusal> {
+    if at < memory.heap.len() {
+        let appended = builder.append_value(memory, value);
+        memory.heap[at] = mark;
+        return appended;
+    }
+    Ok(())
+}
+
 // The number and the entry of an answer, both 0 where the call was accepted.
 #[cfg(test)]
 fn told(r: Result<(), Refusal>) -> (u8, u64) {
@@ -74,6 +91,44 @@ mod tests {
                     (store.get(0), store.get(1), store.get(2)),
                     (Some(0), Some(2), None)
                 );
+                Ok(())
+            }
+            Err(_) => Err(Fail::new("refused")),
+        }
+    }
+
+    // One value, and then a mark on the last byte of the heap, by way of the memory that was lent.
+    fn marked<S: OffsetStore>(
+        store: &mut S,
+        heap: &mut [u8],
+        bits: &mut [u8],
+    ) -> Result<Finished, Refusal> {
+        let mut builder = VarBinBuilder::new(
+            DType {
+                utf8: false,
+                nullable: true,
+            },
+            store,
+            heap,
+            bits,
+        )?;
+        let mut memory = Memory { store, heap, bits };
+        let appended = append_then_mark(&mut builder, &mut memory, b"ab", 3, 0x11);
+        let finished = builder.finish();
+        appended?;
+        Ok(finished)
+    }
+
+    #[test]
+    fn memory_after_a_call(rt: HostRuntime) -> Result<(), Fail> {
+        let mut entries = [0u8; 3];
+        let mut heap = [0xA5u8; 4];
+        let mut bits = [0x5Au8; 1];
+        let mut store = FixedOffsets::new(&mut entries);
+        match marked(&mut store, &mut heap, &mut bits) {
+            Ok(f) => {
+                assert_eq!(rt; f.bytes, 2);
+                assert_eq!(rt; heap, [97, 98, 0xA5, 0x11]);
                 Ok(())
             }
             Err(_) => Err(Fail::new("refused")),

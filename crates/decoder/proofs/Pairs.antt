@@ -27,7 +27,7 @@ bytes_of [] = Some []
 bytes_of (p ∷ ps) = with_byte (digit_value (get_or p 0 0)) (digit_value (get_or p 1 0)) (bytes_of ps)
 
 -- where no digit is left over, the bytes of the digits are those of their pairs
-paired : (ds : List ℕ) (n : ℕ) → length ds ≡ 2 * n → bytes_of (first_chunks 2 n ds) ≡ hex_bytes ds
+pub paired : (ds : List ℕ) (n : ℕ) → length ds ≡ 2 * n → bytes_of (first_chunks 2 n ds) ≡ hex_bytes ds
 paired [] zero e = refl
 paired [] (suc n) e = absurd (omega arith)
 paired (a ∷ []) n e = absurd (omega arith)
@@ -70,7 +70,7 @@ abbrev pub behind : List ℕ → Option (List ℕ) → Option (List ℕ)
 behind xs None = None
 behind xs (Some ys) = Some (xs ++ ys)
 
-behind_none : (o : Option (List ℕ)) → behind [] o ≡ o
+pub behind_none : (o : Option (List ℕ)) → behind [] o ≡ o
 behind_none None = refl
 behind_none (Some ys) = refl
 
@@ -123,7 +123,7 @@ pub begins : (all : Option (List ℕ)) (part : List ℕ) (n : ℕ) → all ≡ S
 begins all part n is = subst (λ o. Begins o (Some n) part) (sym is) refl
 
 -- after a refusal nothing is said of the part
-begins_none : (all : Option (List ℕ)) (part : List ℕ) → Begins all None part
+pub begins_none : (all : Option (List ℕ)) (part : List ℕ) → Begins all None part
 begins_none None part = tt
 begins_none (Some xs) part = tt
 

@@ -14,6 +14,7 @@ use rows::row::RowRef;
 use rows::source::RowSource;
 use slots::dtype::DType;
 use std::alloc::{AllocError, Global};
+use std::fmt;
 use std::fmt::Write;
 use thiserror::Error;
 
@@ -35,6 +36,13 @@ pub enum ListingError {
     Row { entry: u64, refusal: Refusal },
     #[error("no memory")]
     Memory(#[from(alloc)] AllocError),
+}
+
+// Written by hand: what is derived converts from a failed allocation only.
+impl From<fmt::Error> for ListingError {
+    fn from(_e: fmt::Error) -> ListingError {
+        ListingError::Memory(AllocError)
+    }
 }
 
 // Appends the row of each record.

@@ -1,5 +1,5 @@
 -- Lists of flags: the next set flag, how many are set, the bits of bytes as flags, and the bits after a write.
-use Rattle.std.proofs.Common.{◌≡◌, ℕ, zero, suc, ◌+◌, ◌-◌, ◌*◌, ◌/◌, ◌%◌, ◌^◌, ◌<◌, ◌≤◌, Bool, true, false, cond, ◌&&◌, eqb, ltb, leb, List, [], ◌∷◌, ◌++◌, map, length, get_or, drop, replicate, Some, None, Option, sym, refl, ap, ◌∙◌, ⊎_elim, add-zero, add-one, arith}
+use Rattle.std.proofs.Common.{◌≡◌, ℕ, zero, suc, ◌+◌, ◌-◌, ◌*◌, ◌/◌, ◌%◌, ◌^◌, ◌<◌, ◌≤◌, Bool, true, false, cond, ◌&&◌, eqb, ltb, leb, List, [], ◌∷◌, ◌++◌, map, length, get_or, drop, replicate, Some, None, Option, sym, refl, ap, ◌∙◌, ⊎_elim, add-zero, add-one, arith, subst}
 use lib.Count.{ones}
 use Rattle.std.specs.List.{range_with_len}
 use Rattle.std.proofs.lemmas.List.FromFn.{length-map-range_with_len, get_or-map-range_with_len, map-range_with_len_more}
@@ -46,6 +46,10 @@ from_drop p fs (Some q) (ge, inside, is_set, before) =
 
 next_is : (p : ℕ) (fs : List Bool) → NextAt p fs (next_set p fs)
 next_is p fs = from_drop p fs (next_set p fs) (first_is p (drop p fs))
+
+-- what an answer of next_set tells
+pub next_at : (p : ℕ) (fs : List Bool) (r : Option ℕ) → next_set p fs ≡ r → NextAt p fs r
+next_at p fs r e = subst (NextAt p fs) e (next_is p fs)
 
 -- there is only one such answer
 one_next : (p : ℕ) (fs : List Bool) (r s : Option ℕ) → NextAt p fs r → NextAt p fs s → r ≡ s

@@ -29,18 +29,19 @@ pub record Seek (f : ℕ → Bool) (i left : ℕ) : Type 0 where
   pub byte : left < 256
 
 -- what the code keeps of byte i, the bits before `from` cleared
-pub seek : (bs : List ℕ) (from i b r : ℕ) → ((k : ℕ) → k < 8 * i → bit_from bs from k ≡ false) → from < 8 * (i + 1) → r ≡ from - 8 * i → b ≡ get_or bs i 0 → b < 256 → Seek (bit_from bs from) i (bit_and b (255 * 2 ^ r % 256))
-seek bs from i b r before near e at fits = record {
+pub seek : (bs : List ℕ) (from i b keep : ℕ) → ((k : ℕ) → k < 8 * i → bit_from bs from k ≡ false) → from < 8 * (i + 1) → keep ≡ 255 * 2 ^ (from - 8 * i) % 256 → b ≡ get_or bs i 0 → b < 256 → Seek (bit_from bs from) i (bit_and b keep)
+seek bs from i b keep before near e at fits = record {
   before = before;
   here = λ q h.
-      from_bit b r q fits (omega arith)
+      ap (λ m. bit_of (bit_and b m) q) e
+      ∙ from_bit b (from - 8 * i) q fits (omega arith)
       ∙ ap (λ t. t && bit_of b q) (tests q)
       ∙ ap (λ n. leb from (8 * i + q) && bit_of n q) at
       ∙ ap (λ t. leb from (8 * i + q) && t) (sym (bit_of_byte bs i q h));
-  byte = let l = and_le_l b (255 * 2 ^ r % 256) in omega arith;
+  byte = let l = and_le_l b keep in omega arith;
 }
   where
-    tests : (q : ℕ) → leb r q ≡ leb from (8 * i + q)
+    tests : (q : ℕ) → leb (from - 8 * i) q ≡ leb from (8 * i + q)
     tests q = grind (arith, nat_tests)
 
 -- where the lowest bits of the byte are unset, so is f up to there
@@ -69,7 +70,7 @@ hit f i left s p =
     }
 
 -- the answers: a place below n, or none where no bit is left
-found : (bs : List ℕ) (from n p : ℕ) → Hit (bit_from bs from) p → p < n → Some p ≡ next_set from (bit_flags n bs)
+pub found : (bs : List ℕ) (from n p : ℕ) → Hit (bit_from bs from) p → p < n → Some p ≡ next_set from (bit_flags n bs)
 found bs from n p h lt =
     let both = and_parts (leb from p) (bit_at bs p) h.is_set in
     let inside = length_bits n bs in

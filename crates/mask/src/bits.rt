@@ -66,14 +66,16 @@ pub fn count_ones(bytes: &[u8], n: u64) -> u64
 pub fn next_one(bytes: &[u8], from: u64, n: u64) -> Option<u64>
     ensures { result ≡ next_set from (bit_flags n bytes.now) }
 {
+    // The bits before `from` do not count, which are in the first byte.
+    let mut keep = 255u8 << (from % 8);
     // by byte number, which tells the bit number too; the range may end behind the bytes
     for i in from / 8..n.div_ceil(8) {
-        // The bits before `from` do not count.
-        let byte = bytes.get(i as usize)? & 255 << from.saturating_sub(8 * i);
+        let byte = bytes.get(i as usize)? & keep;
         if byte != 0 {
             let place = 8 * i + byte.trailing_zeros() as u64;
             return (place < n).then_some(place);
         }
+        keep = 255;
     }
     None
 }

@@ -1,5 +1,5 @@
 -- The offsets of a store: how many there are, which stands at a place, and what one push more adds. In each, value gives the integer of an entry.
-use Rattle.std.proofs.Common.{◌≡◌, ℕ, ◌+◌, ◌<◌, ◌≤◌, min, List, [], ◌∷◌, ◌++◌, map, length, get_or, take, set, ℤ, pos, ltb, is_some, IfSome, Some, None, Option, sym, ap, ◌∙◌, arith}
+use Rattle.std.proofs.Common.{◌≡◌, ℕ, ◌+◌, ◌<◌, ◌≤◌, min, List, [], ◌∷◌, ◌++◌, map, length, get_or, take, set, ℤ, pos, ltb, is_some, IfSome, Some, None, Option, sym, ap, ◌∙◌, arith, unwrap_or}
 use Rattle.std.specs.List.{slice_get}
 use Rattle.std.proofs.lemmas.List.{length-map, length-take, get_or-map, get_or-take, map_push, take-map, take_more, take_more_set, map-set}
 use Rattle.std.proofs.lemmas.Option.{slice_get-get_or, slice_get_past}
@@ -7,19 +7,24 @@ use Rattle.std.proofs.lemmas.Bool.Decides.{nat_tests}
 use Rattle.ptype.specs.Integers.{amount, amount_at}
 use Rattle.offsets.specs.Stores.{held, amounts}
 
-length_offsets : {X : Type 0} (value : X → ℤ) (used : ℕ) (xs : List X) → length (amounts (held value used xs)) ≡ min used (length xs)
+pub length_offsets : {X : Type 0} (value : X → ℤ) (used : ℕ) (xs : List X) → length (amounts (held value used xs)) ≡ min used (length xs)
 length_offsets value used xs = length-map (held value used xs) amount ∙ length-map (take used xs) value ∙ length-take used xs
 
 -- the number of an entry that was read at a place
 pub entry_is : {X : Type 0} (value : X → ℤ) (xs : List X) (i : ℕ) (x : X) (n : ℕ) → i < length xs → x ≡ get_or xs i x → n ≡ amount (value x) → n ≡ amount_at (map value xs) i
 entry_is value xs i x n h is e = e ∙ ap (λ y. amount (value y)) is ∙ sym (ap amount (get_or-map value xs i x (pos 0) h))
 
+-- a number that is read is no greater than any bound on it
+pub entry_bound : (o : Option ℕ) (most n : ℕ) → IfSome o (λ m. m ≤ most) → n ≡ unwrap_or o 0 → n ≤ most
+entry_bound None most n h e = omega arith
+entry_bound (Some m) most n h e = omega arith
+
 -- a write within the entries
 pub written : {X : Type 0} (value : X → ℤ) (xs : List X) (i : ℕ) (x : X) (offset : ℕ) → value x ≡ pos offset → map value (set xs i x) ≡ set (map value xs) i (pos offset)
 written value xs i x offset is = map-set value xs i x ∙ ap (set (map value xs) i) is
 
 -- the offset at a place is the number of the entry there
-offset_at : {X : Type 0} (value : X → ℤ) (used : ℕ) (xs : List X) (i : ℕ) → i < used → i < length xs → slice_get (amounts (held value used xs)) i ≡ Some (amount_at (map value xs) i)
+pub offset_at : {X : Type 0} (value : X → ℤ) (used : ℕ) (xs : List X) (i : ℕ) → i < used → i < length xs → slice_get (amounts (held value used xs)) i ≡ Some (amount_at (map value xs) i)
 offset_at value used xs i low high =
     let zs = map value xs in
     let many : i < length (take used zs) = omega (arith, length-take used zs, length-map xs value) in
@@ -28,7 +33,7 @@ offset_at value used xs i low high =
     ∙ ap (λ n. Some n) (get_or-map amount (take used zs) i (pos 0) 0 many ∙ ap amount (get_or-take used zs i (pos 0) low))
 
 -- and there is none from their number on
-offset_past : {X : Type 0} (value : X → ℤ) (used : ℕ) (xs : List X) (i : ℕ) → min used (length xs) ≤ i → slice_get (amounts (held value used xs)) i ≡ None
+pub offset_past : {X : Type 0} (value : X → ℤ) (used : ℕ) (xs : List X) (i : ℕ) → min used (length xs) ≤ i → slice_get (amounts (held value used xs)) i ≡ None
 offset_past value used xs i h = slice_get_past (amounts (held value used xs)) i (omega (arith, length_offsets value used xs))
 
 -- an entry that is read below the number of offsets is the offset there

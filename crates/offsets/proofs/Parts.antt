@@ -14,17 +14,17 @@ naturals [] h = refl
 naturals (pos n ∷ zs) h = ap (λ l. pos n ∷ l) (naturals zs h)
 naturals (negsuc n ∷ zs) h = let z : ◌≡◌ {A = ℕ} 0 1 = cc in absurd (omega arith)
 
-some_natural : (z : ℤ) → is_some (natural z) ≡ is_natural z
+pub some_natural : (z : ℤ) → is_some (natural z) ≡ is_natural z
 some_natural (pos n) = refl
 some_natural (negsuc n) = refl
 
 -- entries each of which is read as a number
-all_read : {X : Type 0} (value : X → ℤ) (xs : List X) → AllWithin (λ x. is_some (natural (value x)) ≡ true) xs 0 (length xs) → all_natural (map value xs) ≡ true
+pub all_read : {X : Type 0} (value : X → ℤ) (xs : List X) → AllWithin (λ x. is_some (natural (value x)) ≡ true) xs 0 (length xs) → all_natural (map value xs) ≡ true
 all_read value [] h = refl
 all_read value (x ∷ xs) h = and_from (is_natural (value x)) (all_natural (map value xs)) (sym (some_natural (value x)) ∙ h 0 x (omega arith) (omega arith)) (all_read value xs (λ k d low high. h (suc k) d (omega arith) (omega arith)))
 
 -- and an entry among them that is not
-one_unread : {X : Type 0} (value : X → ℤ) (xs : List X) (k : ℕ) → k < length xs → HoldsAt (λ x. is_some (natural (value x)) ≡ false) xs k → all_natural (map value xs) ≡ false
+pub one_unread : {X : Type 0} (value : X → ℤ) (xs : List X) (k : ℕ) → k < length xs → HoldsAt (λ x. is_some (natural (value x)) ≡ false) xs k → all_natural (map value xs) ≡ false
 one_unread value [] k low h = absurd (omega arith)
 one_unread value (x ∷ xs) zero low h = and_left (is_natural (value x)) (all_natural (map value xs)) (sym (some_natural (value x)) ∙ h x)
 one_unread value (x ∷ xs) (suc k) low h = and_right (is_natural (value x)) (all_natural (map value xs)) (one_unread value xs k (omega arith) h)

@@ -1,7 +1,9 @@
 -- What reading an entry tells of it, and the entries of a list.
-use Rattle.std.proofs.Common.{◌≡◌, ℕ, zero, suc, ◌+◌, ◌<◌, ◌≤◌, List, [], ◌∷◌, map, length, get_or, drop, ℤ, pos, negsuc, Some, None, Option, unwrap_or, refl, ap, ◌∙◌, arith}
+use Rattle.std.proofs.Common.{◌≡◌, ℕ, zero, suc, ◌+◌, ◌<◌, ◌≤◌, List, [], ◌∷◌, map, length, get_or, drop, ℤ, pos, negsuc, Some, None, Option, unwrap_or, refl, ap, ◌∙◌, arith, true, false}
 use Rattle.std.proofs.lemmas.List.{get_or-map, drop_more, length-map}
+use Rattle.std.proofs.lemmas.Bool.Decides.{nat_tests}
 use Rattle.ptype.specs.Integers.{natural, amount, natural_at, amount_at}
+use Rattle.ptype.specs.Searches.{is_within, is_below}
 
 -- what is left of the integers of xs begins with the one of the element at i
 pub next : {X : Type 0} (f : X → ℤ) (xs : List X) (i : ℕ) (d : X) → i < length xs → drop i (map f xs) ≡ f (get_or xs i d) ∷ drop (i + 1) (map f xs)
@@ -37,3 +39,32 @@ entry_read zs i n o e is = e ∙ ap (λ p. unwrap_or p 0) is ∙ entry_or zs i
 
 pub entry_at : (zs : List ℤ) (i n : ℕ) → Some n ≡ natural_at zs i → n ≡ amount_at zs i
 entry_at zs i n e = ap (λ p. unwrap_or p 0) e ∙ entry_or zs i
+
+-- what a number that was read, or its absence, tells of the tests that the searches make
+pub within : (low high n : ℕ) (z : ℤ) → Some n ≡ natural z → low ≤ n → n ≤ high → is_within low high z ≡ true
+within low high n (pos m) e a b = let s : n ≡ m = cc in grind (arith, nat_tests)
+within low high n (negsuc m) e a b = let z : ◌≡◌ {A = ℕ} 0 1 = cc in absurd (omega arith)
+
+pub under_low : (low high n : ℕ) (z : ℤ) → Some n ≡ natural z → n < low → is_within low high z ≡ false
+under_low low high n (pos m) e a = let s : n ≡ m = cc in grind (arith, nat_tests)
+under_low low high n (negsuc m) e a = refl
+
+pub over_high : (low high n : ℕ) (z : ℤ) → Some n ≡ natural z → high < n → is_within low high z ≡ false
+over_high low high n (pos m) e a = let s : n ≡ m = cc in grind (arith, nat_tests)
+over_high low high n (negsuc m) e a = refl
+
+pub negative : (low high : ℕ) (z : ℤ) → None ≡ natural z → is_within low high z ≡ false
+negative low high (pos m) e = let z : ◌≡◌ {A = ℕ} 0 1 = cc in absurd (omega arith)
+negative low high (negsuc m) e = refl
+
+pub below : (limit n : ℕ) (z : ℤ) → Some n ≡ natural z → n < limit → is_below limit z ≡ true
+below limit n (pos m) e a = let s : n ≡ m = cc in grind (arith, nat_tests)
+below limit n (negsuc m) e a = let z : ◌≡◌ {A = ℕ} 0 1 = cc in absurd (omega arith)
+
+pub not_below : (limit n : ℕ) (z : ℤ) → Some n ≡ natural z → limit ≤ n → is_below limit z ≡ false
+not_below limit n (pos m) e a = let s : n ≡ m = cc in grind (arith, nat_tests)
+not_below limit n (negsuc m) e a = refl
+
+pub negative_below : (limit : ℕ) (z : ℤ) → None ≡ natural z → is_below limit z ≡ false
+negative_below limit (pos m) e = let z : ◌≡◌ {A = ℕ} 0 1 = cc in absurd (omega arith)
+negative_below limit (negsuc m) e = refl

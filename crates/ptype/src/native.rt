@@ -107,7 +107,7 @@ impl IntegerPType for i8 {
     }
 
     fn to_u64(self) -> Option<u64> {
-        u64::try_from(self).ok()
+        (self >= 0).then(|| self as u64)
     }
 
     fn from_u64(n: u64) -> Option<i8> {
@@ -125,7 +125,7 @@ impl IntegerPType for i16 {
     }
 
     fn to_u64(self) -> Option<u64> {
-        u64::try_from(self).ok()
+        (self >= 0).then(|| self as u64)
     }
 
     fn from_u64(n: u64) -> Option<i16> {
@@ -143,7 +143,7 @@ impl IntegerPType for i32 {
     }
 
     fn to_u64(self) -> Option<u64> {
-        u64::try_from(self).ok()
+        (self >= 0).then(|| self as u64)
     }
 
     fn from_u64(n: u64) -> Option<i32> {
@@ -161,7 +161,7 @@ impl IntegerPType for i64 {
     }
 
     fn to_u64(self) -> Option<u64> {
-        u64::try_from(self).ok()
+        (self >= 0).then(|| self as u64)
     }
 
     fn from_u64(n: u64) -> Option<i64> {

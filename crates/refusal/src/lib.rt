@@ -123,25 +123,84 @@ impl Refusal {
 #[cfg(test)]
 mod tests {
     use super::*;
+    use std::alloc::Global;
+    use std::process::Abort;
     use std::test::Fail;
+
+    // The text of a refusal, compared.
+    fn expect(rt: &impl Abort, heap: Global, refusal: Refusal, text: &str) -> Result<(), Fail> {
+        assert_eq!(rt; refusal.to_string(heap)?.as_str(), text);
+        Ok(())
+    }
 
     #[test]
     fn displayed(rt: HostRuntime) -> Result<(), Fail> {
-        let heap = rt.alloc();
-        assert_eq!(rt;
-            Refusal::OverLimit.to_string(heap)?.as_str(),
-            "refused 14: over a limit"
-        );
-        assert_eq!(rt;
-            Refusal::RowAbsent { entry: 3 }.to_string(heap)?.as_str(),
-            "refused 11: a row that is not there, entry 3"
-        );
-        assert_eq!(rt;
-            Refusal::NotUtf8 { entry: 2, byte: 70 }
-                .to_string(heap)?
-                .as_str(),
-            "refused 18: not UTF-8, row 2, byte 70"
-        );
+        let texts = [
+            (
+                Refusal::OtherMemory,
+                "refused 1: the memory is not as the builder left it",
+            ),
+            (
+                Refusal::RowsOverCapacity,
+                "refused 2: more rows than the capacity",
+            ),
+            (
+                Refusal::BytesOverHeap,
+                "refused 3: more bytes than the heap has",
+            ),
+            (
+                Refusal::BytesOverTop,
+                "refused 4: more bytes than the greatest offset",
+            ),
+            (
+                Refusal::NullNotAllowed,
+                "refused 5: a null where there may be none",
+            ),
+            (Refusal::CountsDiffer, "refused 6: counts differ"),
+            (
+                Refusal::BadEnd { entry: 7 },
+                "refused 7: a bad end or length, entry 7",
+            ),
+            (Refusal::TotalDiffers, "refused 8: another total"),
+            (Refusal::DecoderRefused, "refused 9: the decoder refused"),
+            (
+                Refusal::DecodedCountDiffers,
+                "refused 10: the decoder wrote another count",
+            ),
+            (
+                Refusal::RowAbsent { entry: 3 },
+                "refused 11: a row that is not there, entry 3",
+            ),
+            (
+                Refusal::MaskLengthDiffers,
+                "refused 12: a mask of another length",
+            ),
+            (
+                Refusal::StoreNotFresh,
+                "refused 13: a store that is not fresh",
+            ),
+            (Refusal::OverLimit, "refused 14: over a limit"),
+            (Refusal::NoOffsets, "refused 15: no offsets"),
+            (
+                Refusal::ValidityMismatch,
+                "refused 16: validity that does not fit",
+            ),
+            (
+                Refusal::BadOffset { entry: 5 },
+                "refused 17: a bad offset, entry 5",
+            ),
+            (
+                Refusal::NotUtf8 { entry: 2, byte: 70 },
+                "refused 18: not UTF-8, row 2, byte 70",
+            ),
+            (
+                Refusal::MalformedRecord { entry: 255 },
+                "refused 19: a malformed record, entry 255",
+            ),
+        ];
+        for (refusal, text) in texts {
+            expect(&rt, rt.alloc(), refusal, text)?;
+        }
         Ok(())
     }
 }

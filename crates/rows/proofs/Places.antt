@@ -7,7 +7,7 @@ use Rattle.slots.specs.Rows.{Row}
 use Rattle.rows.specs.Sources.{joined_rows, JoinLaw}
 
 module _ {X : Type 0} where
-  nth_left : (xs ys : List X) (i : ℕ) → i < length xs → slice_get (xs ++ ys) i ≡ slice_get xs i
+  pub nth_left : (xs ys : List X) (i : ℕ) → i < length xs → slice_get (xs ++ ys) i ≡ slice_get xs i
   nth_left [] ys i h = absurd (omega arith)
   nth_left (x ∷ xs) ys zero h = refl
   nth_left (x ∷ xs) ys (suc i) h = nth_left xs ys i (omega arith)
@@ -18,7 +18,7 @@ module _ {X : Type 0} where
       let e : suc (length xs) + i ≡ suc (length xs + i) = omega arith in
       ap (slice_get (x ∷ (xs ++ ys))) e ∙ nth_right xs ys i
 
-  nth_take : (m i : ℕ) (xs : List X) → i < m → slice_get (take m xs) i ≡ slice_get xs i
+  pub nth_take : (m i : ℕ) (xs : List X) → i < m → slice_get (take m xs) i ≡ slice_get xs i
   nth_take zero i xs h = absurd (omega arith)
   nth_take (suc m) i [] h = refl
   nth_take (suc m) zero (x ∷ xs) h = refl

@@ -1,5 +1,6 @@
 -- What the checks say before and behind the decode, and what the heap holds on each way out.
-use Rattle.std.proofs.Common.{◌≡◌, ◌+◌, ◌-◌, ◌≤◌, length, take, drop, Some, None, refl, ap, ◌∙◌, arith, length-drop, length-take}
+use Rattle.std.proofs.Common.{◌≡◌, ℕ, ◌+◌, ◌-◌, ◌≤◌, List, length, take, drop, Some, None, refl, ap, ◌∙◌, arith, length-append, length-drop, length-take, rules}
+use borrow.Rule.Slice.PartMut.{put_mid}
 use Rattle.std.proofs.lemmas.Result.{err_from_is_err_and}
 use Rattle.integers.specs.Slices.{integers}
 use Rattle.refusal.specs.Refusals.{code_of}
@@ -28,6 +29,10 @@ returns-in_err-check_decode g c =
       kept = refl;
     })
 
+-- a part that is as long as it was leaves the whole as long as it was
+put_long : (at size : ℕ) (heap part : List ℕ) → length part ≡ length (take size (drop at heap)) → length (put_mid at size heap part) ≡ length heap
+put_long at size heap part e = simp (length-append, length-take, length-drop) (omega (arith, e, length-take size (drop at heap), length-drop at heap))
+
 -- the part that a decoder is lent lies within the heap, and the heap within its limit
 lent : (g : Over) (c : In_ok-check_decode g) → (c.args.self.now.used + (c.args.num_bytes + c.args.slack) ≤ length c.args.memory.now.heap.now) × (length c.args.memory.now.heap.now ≤ 68719476736)
 lent g c =
@@ -46,7 +51,7 @@ place_lengths-requires g c =
     let means = g.D.Decoder.means c.args.decoder.now in
     let limits : Limits m = record { few = b.limit; small = b.few; entries = b.entries } in
     let f = before m c.args.num_bytes c.args.slack zs c.args.validity limits c.in_ok-check_decode.ensures in
-    let t = told means _ c.args.num_bytes zs c.in_ok-decode_part.ensures.answer in
+    let t = told means _ c.args.num_bytes zs c.in_default.ensures.answer in
     record { fit = rows_fit m c.args.num_bytes c.args.slack zs c.args.validity limits _ f t.all; counts = f.counts }
 
 pub returns : goal.returns
@@ -64,15 +69,24 @@ returns g c =
     let long : n ≡ c.args.num_bytes + c.args.slack = simp (length-take, length-drop) (omega (arith, f.heap)) in
     let wide : w ≡ c.args.num_bytes + c.args.slack = omega arith in
     let kept = c.place_lengths.ensures.same in
+    let decoded : length c.decode_part.new.part ≡ n = search rules in
     record {
-      answer = answered m c.args.num_bytes c.args.slack zs c.args.validity means c.decode_part.new.part w n limits passes wide long None c.in_ok-decode_part.ensures.answer;
-      after = c.place_lengths.ensures.after ∙ accepted m c.args.num_bytes c.args.slack zs c.args.validity means c.decode_part.new.part w n limits passes wide long c.in_ok-decode_part.ensures.answer c.in_ok-decode_part.ensures.part;
-      same = record { same_store = kept.same_store; same_heap = kept.same_heap; same_bits = kept.same_bits };
-      kept = c.in_ok-decode_part.ensures.kept;
+      answer = answered m c.args.num_bytes c.args.slack zs c.args.validity means c.decode_part.new.part w n limits passes wide long None c.in_default.ensures.answer;
+      after = c.place_lengths.ensures.after ∙ accepted m c.args.num_bytes c.args.slack zs c.args.validity means c.decode_part.new.part w n limits passes wide long c.in_default.ensures.answer c.in_default.ensures.part;
+      same = record {
+        same_store = kept.same_store;
+        same_heap = kept.same_heap;
+        same_bits = kept.same_bits;
+        heap_place = kept.heap_place;
+        bits_place = kept.bits_place;
+        heap_length = kept.heap_length ∙ put_long b.used w c.args.memory.now.heap.now c.decode_part.new.part decoded;
+        bits_length = kept.bits_length;
+      };
+      kept = c.in_default.ensures.kept;
     }
 
-pub returns-in_err-decode_part : goal.returns-in_err-decode_part
-returns-in_err-decode_part g c =
+pub returns-in-Err : goal.returns-in-Err
+returns-in-Err g c =
     let s = g.S.OffsetStore in
     let b = c.args.self.now in
     let m = state_with s.offsets s.free s.top b c.args.memory.now in
@@ -85,10 +99,18 @@ returns-in_err-decode_part g c =
     let f = before m c.args.num_bytes c.args.slack zs c.args.validity limits passes in
     let long : n ≡ c.args.num_bytes + c.args.slack = simp (length-take, length-drop) (omega (arith, f.heap)) in
     let wide : w ≡ c.args.num_bytes + c.args.slack = omega arith in
-    let p = err_from_is_err_and c.from_residual-in_err-decode_part.result c.from_residual-in_err-decode_part.ensures.1 in
-    rw (p.1, p.2) (record {
-      answer = answered m c.args.num_bytes c.args.slack zs c.args.validity means c.decode_part.new.part w n limits passes wide long _ c.in_err-decode_part.ensures.answer;
-      after = refused m c.args.num_bytes c.args.slack zs c.args.validity means c.decode_part.new.part w n limits passes wide long (code_of c.in_err-decode_part.field-0.0) c.in_err-decode_part.ensures.part;
-      same = record { same_store = refl; same_heap = refl; same_bits = refl };
-      kept = c.in_err-decode_part.ensures.kept;
-    })
+    let decoded : length c.decode_part.new.part ≡ n = search rules in
+    record {
+      answer = answered m c.args.num_bytes c.args.slack zs c.args.validity means c.decode_part.new.part w n limits passes wide long _ c.in-Err.ensures.answer;
+      after = refused m c.args.num_bytes c.args.slack zs c.args.validity means c.decode_part.new.part w n limits passes wide long (code_of c.in-Err.refusal) c.in-Err.ensures.part;
+      same = record {
+        same_store = refl;
+        same_heap = refl;
+        same_bits = refl;
+        heap_place = refl;
+        bits_place = refl;
+        heap_length = put_long b.used w c.args.memory.now.heap.now c.decode_part.new.part decoded;
+        bits_length = refl;
+      };
+      kept = c.in-Err.ensures.kept;
+    }
