@@ -121,6 +121,7 @@ impl VarBinBuilder {
         check_decode(self, memory, num_bytes, slack, lengths, validity)?;
         let from = self.used as usize;
         let to = from + (num_bytes + slack) as usize;
+        // no `?`, so that an edit can do something wrong where the decode is refused
         if let Err(refusal) = decode_part(decoder, &mut memory.heap[from..to], num_bytes, lengths) {
             return Err(refusal);
         }

@@ -1,4 +1,7 @@
 // The listing of records: a tally line, then a line for each row; or the one line of a refusal.
+ghost use Rattle.std.specs.Prelude.{◌≡◌, true};
+ghost use Rattle.listing.specs.Errors.{is_memory};
+
 use crate::records::{RECORD_BYTES, read_record};
 use array::tally::Tally;
 use array::view::VarBinArray;
@@ -40,6 +43,8 @@ pub enum ListingError {
 
 // Written by hand: what is derived converts from a failed allocation only.
 impl From<fmt::Error> for ListingError {
+    ghost from_gives = { λ _e error. is_memory error ≡ true };
+
     fn from(_e: fmt::Error) -> ListingError {
         ListingError::Memory(AllocError)
     }

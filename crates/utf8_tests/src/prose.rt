@@ -60,7 +60,7 @@ fn is_character(c: &[u8]) -> bool {
 }
 
 // Where the first character begins that is none, if there is one.
-pub fn first_wrong(bytes: &[u8]) -> Option<u64> {
+pub(crate) fn first_wrong(bytes: &[u8]) -> Option<u64> {
     let mut at = 0;
     // by place, since each step is as long as the character
     while at < bytes.len() {

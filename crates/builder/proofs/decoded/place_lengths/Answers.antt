@@ -1,5 +1,5 @@
 -- Each row has room, and the others fit behind it.
-use Rattle.std.proofs.Common.{◌<◌, length, refl, arith, rules}
+use Rattle.std.proofs.Common.{◌<◌, length, arith, rules}
 use Rattle.integers.specs.Slices.{integers}
 use Rattle.mask.specs.Masks.{flags}
 use Rattle.builder.specs.States.{state_of, state_with}
@@ -26,7 +26,7 @@ loop-i-preserved g c =
     let heap = c.loop-i.memory.heap.now in
     let m1 = state_of s.offsets s.free s.top c.place_row.new.b c.place_row.new.store heap c.place_row.new.bits in
     let h : c.loop-i.i < length zs = omega (arith, c.len-i-end.ensures) in
-    (more m0 m (flags c.args.validity) zs c.loop-i.i h c.requires.counts c.loop-i.invariant.0 m1 c.value.result c.amount-size.result c.value.ensures c.amount-size.ensures (c.place_row.ensures heap), then_same _ _ _ c.loop-i.invariant.1 (record { same_store = refl; same_heap = refl; same_bits = refl; heap_place = refl; bits_place = refl; heap_length = refl; bits_length = search rules }))
+    (more m0 m (flags c.args.validity) zs c.loop-i.i h c.requires.counts c.loop-i.invariant.0 m1 c.value.result c.amount-size.result c.value.ensures c.amount-size.ensures (c.place_row.ensures heap), then_same _ _ _ c.loop-i.invariant.1 (search rules))
 
 pub returns : goal.returns
 returns g c =

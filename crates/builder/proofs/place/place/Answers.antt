@@ -1,5 +1,5 @@
 -- The bytes first, and then the row of the heap that they left.
-use Rattle.std.proofs.Common.{length, refl, ap, ◌∙◌, rules}
+use Rattle.std.proofs.Common.{length, ap, ◌∙◌, rules}
 use Rattle.builder.specs.States.{state_of, add_row}
 use Rattle.builder.proofs.place.place.Goals as goal
 
@@ -11,5 +11,5 @@ returns g c =
       after =
           c.place_row.ensures c.put_bytes.new.heap
           ∙ ap (λ heap. add_row (state_of s.offsets s.free s.top c.args.b.now memory.store.now heap memory.bits.now) c.args.slot.valid (length c.args.slot.bytes.now)) c.put_bytes.ensures;
-      same = record { same_store = refl; same_heap = refl; same_bits = refl; heap_place = refl; bits_place = refl; heap_length = search rules; bits_length = search rules };
+      same = search rules;
     }
